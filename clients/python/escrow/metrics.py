@@ -64,12 +64,12 @@ class Family(NamedTuple):
 
 
 class Other(NamedTuple):
-    """A number that somebody else counts, as a carrier, and how it is read."""
+    """A number that somebody else counts, as a carrier, and how it is read: alone, or as samples with labels."""
 
     name: str
     help: str
     type: Type
-    read: Callable[[], float]
+    read: Callable[[], float | list[Sample]]
 
 
 class Source(Protocol):
@@ -172,8 +172,9 @@ class Metrics:
         """So many transactions are open, of the 64 that a site has places for."""
         self._open = transactions
 
-    def also(self, name: str, help: str, type: Type, read: Callable[[], float]) -> None:
-        """Adds a number that somebody else counts: `escrow_carrier_forged_total`, read anew for each text.
+    def also(self, name: str, help: str, type: Type, read: Callable[[], float | list[Sample]]) -> None:
+        """Adds a number that somebody else counts, read anew for each text: alone, or as a list of samples with labels, as
+        `escrow_carrier_forged_total`.
 
         `read` must not wait; where it raises there is no sample. Raises `ValueError` where the name is none, or is there already.
         """
@@ -250,9 +251,10 @@ def _alone(value: float) -> list[Sample]:
     return [Sample("", (), value)]
 
 
-def _told_by(read: Callable[[], float]) -> list[Sample]:
+def _told_by(read: Callable[[], float | list[Sample]]) -> list[Sample]:
     try:
-        return _alone(read())
+        told = read()
+        return told if isinstance(told, list) else _alone(told)
     except Exception:  # one number that can't be had takes no other with it
         return []
 

@@ -142,6 +142,22 @@ class Site:
         assert mark is not None
         return mark
 
+    def newest_mark(self) -> Mark:
+        """How far its log has come by now, as far as that is safe: for a start elsewhere, as `mark`.
+
+        The file may have bytes of a batch that isn't synced yet. So its size is taken first, and then the site is
+        asked: it takes one batch behind another, and the answers of each leave once the log is synced. What stood in
+        the log before the question is of earlier batches: with the answer it is safe. What a stop left half-written is
+        cut off before the next process stands: so a size counts where the process that stood before it was taken
+        answers. It is never less than `mark`. Raises `Down`, and `OSError` where the log can't be looked at.
+        """
+        while True:
+            epoch, size = self.epoch, _size_of_records(os.path.join(self.folder, "log"))
+            self.share(self.schema.fields[0].name)
+            mark = self.mark
+            if mark.epoch == epoch == self.epoch:
+                return Mark(epoch, max(size, mark.length))
+
     @property
     def pid(self) -> Optional[int]:
         """The process, where there is one."""
@@ -399,10 +415,21 @@ class AsyncSite:
         """As `Site.share`."""
         return await self._ask(self.site._share(field))
 
+    async def newest_mark(self) -> Mark:
+        """As `Site.newest_mark`, in a thread."""
+        return await asyncio.to_thread(self.site.newest_mark)
+
     async def outcome(self, id: str) -> Outcome:
         """As `Site.outcome`."""
         read_id(id)
         return await self._ask(Kept(id))
+
+
+def _size_of_records(path: str) -> int:
+    """How many bytes stand in a log behind its own three lines."""
+    with open(path, "rb") as log:
+        name = sum(len(log.readline()) for _ in range(3))
+        return os.fstat(log.fileno()).st_size - name
 
 
 def _lock(path: str) -> int:

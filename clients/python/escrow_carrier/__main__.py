@@ -1,19 +1,31 @@
 """Prints mosquitto's access list for the sites in these folders: what the broker has to let each do, and nothing
 else. Site 3 logs in as `site3`.
 
-    python3 -m escrow_carrier shop0 shop1 shop2 > access"""
+    python3 -m escrow_carrier shop0 shop1 shop2 > access
+
+Ends with status 2 where no folder is named, and with 3 where one isn't a site's; then it prints one line, on standard
+error, and no list."""
 import sys
 
+from escrow import EscrowError
 from escrow.schema import identity
 
 from .messages import Topics
 
 
-def main(folders: list[str]) -> None:
-    """An entry for each folder."""
-    for number, world, schema in map(identity, folders):
-        print(f"user site{number}")
-        print("".join(f"{line}\n" for line in Topics(world, schema).access(number)))
+def main(folders: list[str]) -> int:
+    """An entry for each folder. The status."""
+    if not folders:
+        print("escrow_carrier: name the folders of the sites: python3 -m escrow_carrier FOLDER..", file=sys.stderr)
+        return 2
+    try:
+        entries = [(number, Topics(world, schema).access(number)) for number, world, schema in map(identity, folders)]
+    except EscrowError as fault:
+        print(f"escrow_carrier: {fault}", file=sys.stderr)
+        return 3
+    for number, lines in entries:
+        print("".join(f"{line}\n" for line in (f"user site{number}", *lines)))
+    return 0
 
 
-main(sys.argv[1:])
+sys.exit(main(sys.argv[1:]))

@@ -2,6 +2,7 @@
 from __future__ import annotations
 
 import asyncio
+import logging
 import os
 import queue
 import threading
@@ -15,13 +16,16 @@ from escrow.metrics import Metrics
 from escrow.schema import identity
 
 from .counts import Counts, count_in
+from .marks import marks_of
 from .medium import Medium
 from .messages import Ask, Garbage, Marked, Message, Shares, Topics
 from .policy import Policy
 
 AWAY, FRESH = 3, 1.25                                   # after so many looks a site is away, or may stand still
+CLOSING = 10.0                                          # seconds that the end waits for a site which stands still
 Place = tuple[str, Kind]                                # a field, and the kind of its rights
 Total = tuple[int, str, Kind]                           # the other site, the field, the kind
+log = logging.getLogger("escrow.carrier")
 
 
 class Signal(Enum):
@@ -29,6 +33,7 @@ class Signal(Enum):
 
     OPENED = auto()                                     # the medium is connected
     STARTED = auto()                                    # the site stands anew
+    REFUSED = auto()                                    # the site's log is an older copy: no more is carried
     CLOSE = auto()
 
 
@@ -61,15 +66,23 @@ class Carrier:
     forged total, however large, hides no true one. After a start of the site all that it ever gave is asked of it
     again. Never carry for a site that isn't synced: a gift that is told and then lost is one that nobody gave.
 
+    It tells how far the site's log has come, for the site's own next start. Where the medium has such a mark that is
+    newer than the log was when the `Site` was made, the log is an older copy, and would sell again what is sold. Then
+    the site is closed, and `Down` with `status` 3 is raised. It waits for that mark at most `wait` seconds, and only
+    until it comes: `found_mark`. One that comes later, as where a broker was away, closes the site then: `last_fault`
+    tells why, and so does each call of the site.
+
     Any thread may call `change` and `fetch`; they wait for at most `policy.asks` times `policy.patience`, and as
     long as the site is down. `AsyncCarrier` is for tasks. What it counts stands in `counts`, and in `metrics` too
     where the site's are given: `escrow_carrier_forged_total` and so on, and `escrow_carrier_connected`."""
 
     def __init__(self, site: Site, medium: Medium, policy: Policy = Policy(), refresh: float = 10.0,
-                 metrics: Optional[Metrics] = None) -> None:
+                 metrics: Optional[Metrics] = None, wait: float = 2.0) -> None:
         self.site, self.medium, self.policy, self.refresh = site, medium, policy, refresh
         self.counts = Counts()
         self.last_fault: Optional[Exception] = None
+        self.found_mark: Optional[Mark] = None
+        """The mark that the medium had of this site, by an earlier start; None where none came yet."""
         world = identity(os.fspath(site.folder))
         self._topics = Topics(world.world, world.schema)
         self._others = [it for it in range(world.schema.sites) if it != site.number]
@@ -79,6 +92,11 @@ class Carrier:
         self._told: dict[Total, Statement] = {}         # what this site gave: the greatest totals that it answered
         self._accepted: dict[Total, int] = {}           # the greatest totals that it answered to have accepted
         self._own, self._answers = Shares(site.number, {}), -1
+        self._marks, self._mark, self._wait = marks_of(site), site.mark, wait
+        self._has_told = False                          # its mark
+        self._newer: Optional[Mark] = None              # a mark by which this log is an older copy
+        self._opened_at: Optional[float] = None         # when the medium was connected first
+        self._is_looked_up = threading.Event()          # whether the medium told its mark, or that it has none
         self._moved = dict.fromkeys(self._places, time.monotonic())
         self._changed = threading.Condition()           # guards what follows
         self._reports: dict[int, Report] = {}
@@ -86,14 +104,36 @@ class Carrier:
         self._failed = dict.fromkeys(self._places, -self.policy.patience)
         self._fetching = {place: threading.Lock() for place in self._places}
         self._worker = threading.Thread(target=self._work, name=f"carrier {site.number}", daemon=True)
-        site.on_statement.append(self._events.put)
-        site.on_start.append(self._started)
-        self._started()
-        self._worker.start()
         if metrics is not None:
-            count_in(metrics, self.counts, medium)
-        name = f"escrow-{world.world[:16]}-{site.number}"
-        medium.open(name, self._topics.filters(site.number), self._hear, lambda: self._events.put(Signal.OPENED))
+            count_in(metrics, self.counts, medium, self._others, self._fields)
+        self._begin(f"escrow-{world.world[:16]}-{site.number}")
+
+    def _begin(self, name: str) -> None:
+        self.site.on_statement.append(self._events.put)
+        self.site.on_start.append(self._started)
+        self._started()
+        try:
+            self._open(name)
+        except BaseException:
+            self._unhook()
+            raise
+        self._worker.start()
+
+    def _open(self, name: str) -> None:
+        """Opens the medium, and looks up how far the log of the site has to have come. Raises `Down` where it
+        hasn't."""
+        number = self.site.number
+        self.medium.open(name, [*self._topics.filters(number), self._topics.mark(number)], self._hear, self._opened)
+        self._is_looked_up.wait(self._wait)
+        if self._newer is not None:
+            self._end_site(self._newer)
+            self.medium.close()
+            raise self._marks.refusal(self.site.folder, self._newer)
+        if self.found_mark is None:
+            is_new = self._marks.start.length == 0
+            log.log(logging.INFO if is_new else logging.WARNING,
+                    "%s: no mark of this site came from its medium: an older copy of its log isn't seen, unless one "
+                    "comes later", self.site.folder)
 
     # ---- for who sells
 
@@ -108,15 +148,17 @@ class Carrier:
                     raise
 
     def fetch(self, field: str, kind: Kind, amount: int) -> bool:
-        """Gets rights from other sites, until this one has so many of the kind free. False where they don't come.
-        One thread at a time asks about a kind of a field: the next finds what it got. Raises KeyError where the
-        world has no such field, and `Down`."""
+        """Gets rights from other sites, until this one has so many of the kind free. False where they don't come; at
+        once, with nobody asked, where all that others told of is too little. One thread at a time asks about a kind of
+        a field: the next finds what it got. Raises KeyError where the world has no such field, and `Down`."""
         place = field, kind
         with self._fetching[place]:
             if self._has(place, amount):
                 return True
             if not self.medium.is_connected or time.monotonic() - self._failed[place] < self.policy.patience:
                 return False                            # somebody else has just asked them all
+            if self._is_beyond(place, amount):
+                return False
             if self._ask_others(place, amount):
                 return True
             self._failed[place] = time.monotonic()
@@ -129,14 +171,18 @@ class Carrier:
             return self._known((field, kind), AWAY)
 
     def close(self) -> None:
-        """Ends it, once what came so far is handed to the site. A second time does nothing."""
+        """Ends it, once what came so far is handed to the site, and tells how far the site's log has come. It waits at
+        most 10 seconds for a site that stands still. A second time does nothing."""
         if self._started not in self.site.on_start:
             return
+        self._unhook()
+        self._events.put(Signal.CLOSE)
+        self._worker.join(CLOSING)
+        self.medium.close()
+
+    def _unhook(self) -> None:
         self.site.on_start.remove(self._started)
         self.site.on_statement.remove(self._events.put)
-        self._events.put(Signal.CLOSE)
-        self._worker.join()
-        self.medium.close()
 
     def __enter__(self) -> Carrier:
         return self
@@ -162,7 +208,17 @@ class Carrier:
                 return True
             else:
                 asked.clear()
+            if self._is_beyond(place, amount):
+                return False
         return False
+
+    def _is_beyond(self, place: Place, amount: int) -> bool:
+        """Whether this site and all that can be asked have less, as they told last. Not where one has told nothing
+        yet."""
+        with self._changed:
+            known = list(self._known(place, AWAY).values())
+        shares = [it for it in known if it is not None]     # and then the own: what moves between counts twice
+        return len(shares) == len(known) and sum(shares) + self.site.share(place[0]).of(place[1]) < amount
 
     def _known(self, place: Place, looks: float) -> dict[int, Optional[int]]:
         since = time.monotonic() - looks * self.refresh
@@ -190,6 +246,13 @@ class Carrier:
     def _started(self) -> None:
         self._events.put(Signal.STARTED)
 
+    def _opened(self) -> None:
+        if self._opened_at is None:
+            self._opened_at = time.monotonic()
+        if getattr(self.medium, "kept_comes_first", False):
+            self._is_looked_up.set()
+        self._events.put(Signal.OPENED)
+
     def _hear(self, topic: str, payload: bytes) -> None:
         self.counts.heard += 1
         try:
@@ -197,17 +260,36 @@ class Carrier:
         except Garbage:
             self.counts.garbage += 1
             return
-        self._events.put(Heard(message, time.monotonic()))
+        if isinstance(message, Marked):
+            self._hear_mark(message.mark)
+        else:
+            self._events.put(Heard(message, time.monotonic()))
+
+    def _hear_mark(self, mark: Mark) -> None:
+        """Where it tells of a newer log than this one was, nothing more is sold from now on."""
+        if self.found_mark is None and not self._has_told:
+            self.found_mark = mark
+        if self._newer is None and self._marks.is_newer(mark):
+            self._newer = mark
+            self.last_fault = fault = self._marks.refusal(self.site.folder, mark)
+            log.error("%s", fault)
+            self.site.pipeline.die(fault)
+            self._events.put(Signal.REFUSED)
+        self._is_looked_up.set()
 
     # ---- the worker
 
     def _work(self) -> None:
         due = time.monotonic()
-        while (event := self._next(due)) is not Signal.CLOSE:
+        while self._newer is None and (event := self._next(due)) is not Signal.CLOSE:
             self._try(lambda: self._take(event))
             if time.monotonic() >= due:
                 self._try(self._look)
                 due = time.monotonic() + self.refresh
+        if self._newer is not None:
+            self._end_site(self._newer)
+        elif self.site.up:
+            self._try(self._renew_mark)
 
     def _try(self, act: Callable[[], None]) -> None:
         try:
@@ -228,9 +310,10 @@ class Carrier:
             self.counts.connects += 1
             self._tell_all()
             self._tell_shares(self._fields)
+            self._tell_mark(self._mark)
         elif event is Signal.STARTED:
             self._restate()
-            self._tell_mark()
+            self._tell_mark(self.site.mark)
         elif isinstance(event, Statement):
             self._tell(event)
         elif isinstance(event, Heard):
@@ -261,8 +344,8 @@ class Carrier:
             return
         try:
             gain = self.site.accept(given)
-        except Forged:
-            self.counts.forged += 1
+        except Forged as fault:
+            self._count_forged(given, fault)
             return
         except Refused:
             self.counts.garbage += 1
@@ -280,6 +363,13 @@ class Carrier:
             self._expect(given.giver, place, -gain, at)
             self._changed.notify_all()
         self._tell_shares([given.field])
+
+    def _count_forged(self, given: Statement, fault: Forged) -> None:
+        self.counts.forged += 1
+        self.counts.forged_by[given.giver, given.field] += 1
+        log.error("%s: a forged statement: that site %s gave %s rights to %s %s, where there is room for %s: see who "
+                  "can write to its topics", self.site.folder, given.giver, given.total, given.kind.value, given.field,
+                  fault.told)
 
     def _spare(self, ask: Ask) -> None:
         place = ask.field, ask.kind
@@ -335,16 +425,36 @@ class Carrier:
                 except NothingGiven:
                     pass
 
-    def _tell_mark(self) -> None:
-        self._publish(Marked(self.site.number, self.site.mark), True)
+    def _renew_mark(self) -> None:
+        self._tell_mark(self.site.newest_mark())
+
+    def _tell_mark(self, mark: Mark) -> None:
+        """Tells how far the log has come: never less than before, and not before the medium had time to bring the mark
+        that it keeps, lest that is lost."""
+        self._mark, opened = mark, self._opened_at
+        if self._newer is None and self.medium.is_connected and opened is not None:
+            if self._is_looked_up.is_set() or time.monotonic() - opened >= self._wait / 2:
+                self._has_told = True
+                self._publish(Marked(self.site.number, self._marks.tell(mark)), True)
+
+    def _end_site(self, newer: Mark) -> None:
+        """Ends a site whose log is an older copy. The medium keeps the mark by which it is seen."""
+        self._publish(Marked(self.site.number, self._marks.joined(newer)), True)
+        self.site.pipeline.die(self._marks.refusal(self.site.folder, newer))
+        self.site.close()
 
     def _look(self) -> None:
         """Tells all anew, and evens out what is quiet. The site isn't asked where it has answered nothing since the
         last look."""
-        self._tell_shares(self._fields if self.site.counts.answers != self._answers else [])
-        self._answers = self.site.counts.answers
+        answers = self.site.counts.answers
+        if answers == self._answers:
+            self._tell_shares([])
+            self._tell_mark(self._mark)
+        else:
+            self._tell_shares(self._fields)
+            self._renew_mark()
+            self._answers = answers + len(self._fields) + 1     # what came between is of the next look
         self._tell_all()
-        self._tell_mark()
         for place in self._places if self.medium.is_connected else []:
             if time.monotonic() - self._moved[place] >= self.policy.quiet:
                 self._even_out(place)
@@ -367,7 +477,7 @@ class Carrier:
 
 class AsyncCarrier:
     """The same carrier for the tasks of one event loop: they sell in the loop what the site has, and wait for
-    rights of others in a thread."""
+    rights of others in a thread. Make the `Carrier` before the loop runs: it waits for the mark of its site."""
 
     def __init__(self, carrier: Carrier, site: AsyncSite) -> None:
         self._carrier, self._site = carrier, site

@@ -2,9 +2,10 @@
 from __future__ import annotations
 
 import dataclasses
-from typing import Any, Callable
+from collections import Counter
+from typing import Any, Callable, Sequence
 
-from escrow.metrics import Metrics, Type
+from escrow.metrics import Metrics, Sample, Type
 
 from .medium import Medium
 
@@ -28,14 +29,22 @@ class Counts:
     spared: int = _counted("Rights that were given to who asked.")
     evened: int = _counted("Rights that were given in quiet times.")
     faults: int = _counted("Commands that the site didn't answer, and that are asked later.")
+    forged_by: Counter[tuple[int, str]] = dataclasses.field(default_factory=Counter)
+    """Of `forged`, by the giver that was named and the field."""
 
 
-def count_in(metrics: Metrics, counts: Counts, medium: Medium) -> None:
-    """Adds each count to a site's numbers, as `escrow_carrier_forged_total`, and `escrow_carrier_connected`."""
+def count_in(metrics: Metrics, counts: Counts, medium: Medium, givers: Sequence[int], fields: Sequence[str]) -> None:
+    """Adds each count to a site's numbers, as `escrow_carrier_heard_total`, and `escrow_carrier_connected`. That of
+    forged statements names the giver and the field, each from the beginning on."""
 
-    def counted(name: str) -> Callable[[], float]:
-        return lambda: float(getattr(counts, name))
+    def forged() -> list[Sample]:
+        return [Sample("", (("giver", str(giver)), ("field", field)), counts.forged_by[giver, field])
+                for giver in givers for field in fields]
+
+    def counted(name: str) -> Callable[[], float | list[Sample]]:
+        return forged if name == "forged" else lambda: float(getattr(counts, name))
     for it in dataclasses.fields(Counts):
-        metrics.also(f"escrow_carrier_{it.name}_total", it.metadata["told"], Type.COUNTER, counted(it.name))
+        if it.metadata:
+            metrics.also(f"escrow_carrier_{it.name}_total", it.metadata["told"], Type.COUNTER, counted(it.name))
     told = "Whether the medium is connected (1) or not (0)."
     metrics.also("escrow_carrier_connected", told, Type.GAUGE, lambda: float(medium.is_connected))

@@ -15,17 +15,18 @@ class Folder:
     four pauses, and the time that rsync takes. By rsync each machine copies what its own site tells,
     `escrow/WORLD/N`, to the others, and nothing else: a copy of theirs would put old messages back."""
 
-    is_connected = True
+    is_connected = kept_comes_first = True
 
     def __init__(self, path: str, pause: float = 0.5) -> None:
         self._path, self._pause, self._closed = path, pause, threading.Event()
         self._seen: dict[str, tuple[int, int]] = {}
 
     def open(self, name: str, filters: Sequence[str], hear: Hear, opened: Callable[[], None]) -> None:
-        """Looks from now on. A question that was there before isn't heard."""
+        """Looks for what is kept, and then again and again. A question that was there before isn't heard."""
         patterns = [os.path.join(glob.escape(self._path), it.replace("+", "*")) for it in filters]
         self._look([f"{it}~" for it in patterns], lambda _topic, _payload: None)
         self._name = name
+        self._look(patterns, hear)
         opened()
 
         def look() -> None:

@@ -48,7 +48,7 @@ class Shares:
 
 @dataclass(frozen=True)
 class Marked:
-    """How far the log of a site had come at its last start."""
+    """How far the log of a site has come."""
 
     site: int
     mark: Mark

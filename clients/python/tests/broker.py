@@ -8,6 +8,7 @@ import shutil
 import signal
 import socket
 import subprocess
+import threading
 import time
 from typing import NamedTuple, Optional
 
@@ -48,8 +49,9 @@ class Broker:
         self._process: Optional[subprocess.Popen[bytes]] = None
         self._folder = folder
         os.makedirs(folder, exist_ok=True)
-        lines = [f"listener {self.port} 127.0.0.1", "persistence false", f"user {getpass.getuser()}",
-                 *(self._certify() if is_secret else []), *(self._guard(logins) if logins else ANYBODY)]
+        lines = ["set_tcp_nodelay true", f"listener {self.port} 127.0.0.1", "persistence false",
+                 f"user {getpass.getuser()}", *(self._certify() if is_secret else []),
+                 *(self._guard(logins) if logins else ANYBODY)]
         self._config = self._write("mosquitto.conf", lines)
         self.start()
 
@@ -85,6 +87,12 @@ class Broker:
             time.sleep(0.01)
         self.stop()
         raise RuntimeError("mosquitto doesn't listen")
+
+    def pause(self, seconds: float) -> None:
+        """It stands still for so long, while this goes on."""
+        assert self._process is not None
+        self._process.send_signal(signal.SIGSTOP)
+        threading.Timer(seconds, self._process.send_signal, (signal.SIGCONT,)).start()
 
     def stop(self, how: int = signal.SIGTERM) -> None:
         """Stops it, by SIGTERM or SIGKILL, and waits for its end."""

@@ -53,7 +53,7 @@ class Hub:
 class Port:
     """One carrier's end of a hub."""
 
-    is_connected = True
+    is_connected = kept_comes_first = True
 
     def __init__(self, hub: Hub) -> None:
         self._hub = hub

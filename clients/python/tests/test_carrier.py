@@ -3,10 +3,14 @@ files."""
 from __future__ import annotations
 
 import os
+import subprocess
+import sys
 import tempfile
 import time
 import unittest
 from typing import Optional
+
+from programs import PACKAGES
 
 from escrow import Kind, Mark, Share, Statement
 from escrow.schema import Field, Schema
@@ -61,6 +65,44 @@ class MessagesTest(unittest.TestCase):
         ])
 
 
+class ListTest(unittest.TestCase):
+    """`python3 -m escrow_carrier FOLDER..`."""
+
+    WORLD = "3b0aa9c2a2a6e4a3d4e7c2c3b1f7f4f6e5b9d1c0a8e7f6d5c4b3a29180706050"
+
+    def setUp(self) -> None:
+        folder = tempfile.TemporaryDirectory()
+        self.addCleanup(folder.cleanup)
+        self.folder = folder.name
+        header = '{"sites":2,"fields":[{"name":"stock","floor":0,"ceiling":9,"value":5}]}'
+        self.write("shop0", f"escrow site 1\nnumber 0\nworld {self.WORLD}\n{header}\n")
+
+    def write(self, name: str, text: str) -> None:
+        os.makedirs(f"{self.folder}/{name}")
+        with open(f"{self.folder}/{name}/site", "w", encoding="ascii") as file:
+            file.write(text)
+
+    def asked(self, *folders: str) -> tuple[int, str, str]:
+        told = subprocess.run([sys.executable, "-m", "escrow_carrier", *folders], cwd=self.folder, capture_output=True,
+                              text=True, check=False, env={**os.environ, "PYTHONPATH": PACKAGES})
+        return told.returncode, told.stdout, told.stderr
+
+    def test_a_list(self) -> None:
+        top = f"escrow/{self.WORLD}"
+        self.assertEqual(self.asked("shop0"), (0, f"user site0\ntopic write {top}/0/#\ntopic read {top}/+/given/0/+/+\n"
+                         f"topic read {top}/+/ask/0/+/+\ntopic read {top}/+/shares\ntopic read {top}/0/mark\n\n", ""))
+
+    def test_what_is_no_site_is_one_line_and_no_list(self) -> None:
+        self.write("torn", "escrow site 1\nnumber 0\n")
+        made = "a site's folder is made by create"
+        self.assertEqual(self.asked("shop0", "shop1"), (
+            3, "", f"escrow_carrier: shop1/site: No such file or directory: {made}\n"))
+        self.assertEqual(self.asked("shop0", "torn"), (
+            3, "", "escrow_carrier: torn/site: isn't as create wrote it: put it back from a copy\n"))
+        status, out, told = self.asked()
+        self.assertEqual((status, out, told.count("\n")), (2, "", 1))
+
+
 class PolicyTest(unittest.TestCase):
     """Who is asked, for how many, and how rights are evened out."""
 
@@ -107,12 +149,12 @@ class FolderTest(unittest.TestCase):
             far.open("far", ["w/+/given/1/+/+", "w/+/ask/1/+/+"], lambda *it: heard.append((it[0], it[1])),
                      lambda: heard.append(("opened", b"")))
             given, asked = ("w/0/given/1/stock/lower", b"5"), ("w/0/ask/1/stock/lower", b"9")
-            self.await_heard(heard, [("opened", b""), given])
+            self.await_heard(heard, [given, ("opened", b"")])    # what is kept comes first
             near.publish("w/0/ask/1/stock/lower", "9", False)
             near.publish("w/0/given/2/stock/lower", "6", True)
-            self.await_heard(heard, [("opened", b""), given, asked])
+            self.await_heard(heard, [given, ("opened", b""), asked])
             near.publish("w/0/given/1/stock/lower", "5", True)
-            self.await_heard(heard, [("opened", b""), given, asked, given])
+            self.await_heard(heard, [given, ("opened", b""), asked, given])
             near.close()
             far.close()
             self.assertEqual(sorted(os.listdir(f"{path}/w/0/given/1/stock")), ["lower"])

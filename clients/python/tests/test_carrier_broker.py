@@ -2,6 +2,7 @@
 from __future__ import annotations
 
 import shutil
+import socket
 import tempfile
 import time
 import unittest
@@ -11,7 +12,7 @@ from broker import MISSING, Broker, Login
 from test_carrier_sites import Sites
 
 from escrow import Kind
-from escrow_carrier import Policy, Topics
+from escrow_carrier import Policy, Topics, last_mark
 
 if not MISSING:
     import paho.mqtt.client as paho  # type: ignore
@@ -36,7 +37,7 @@ class BrokerTest(Sites):
         media = [Mqtt(port=broker.port) for _ in range(3)]
         if logins:
             media = [Mqtt(port=broker.port, user=it.user, password=it.password) for it in logins]
-        return self.met([self.carrier(it, PATIENT, 1.0, medium) for it, medium in enumerate(media)])
+        return self.met([self.carrier(it, PATIENT, 1.0, medium, wait=0.2) for it, medium in enumerate(media)])
 
     def test_a_broker_that_forgets_all_loses_no_right(self) -> None:
         broker = self.broker()
@@ -46,17 +47,42 @@ class BrokerTest(Sites):
         broker.stop()
         self.sites[1].give(0, "stock", Kind.LOWER, 2)
         broker.start()
-        self.carrier(0, PATIENT, 1.0, Mqtt(port=broker.port))
+        self.carrier(0, PATIENT, 1.0, Mqtt(port=broker.port), wait=0.2)
         self.await_it(lambda: self.lower() == [15, 5, 10])
+
+    def test_small_messages_go_out_at_once(self) -> None:
+        broker = self.broker()
+        medium = Mqtt(port=broker.port)
+        self.carrier(0, PATIENT, 1.0, medium, wait=0.0)
+        for _ in range(2):                              # at each connection
+            self.await_it(lambda: medium.is_connected)
+            self.assertTrue(self.is_without_delay(medium))
+            broker.stop()
+            self.await_it(lambda: not medium.is_connected)
+            broker.start()
+
+    def is_without_delay(self, medium: Mqtt) -> bool:
+        return bool(medium._client.socket().getsockopt(socket.IPPROTO_TCP, socket.TCP_NODELAY))
+
+    def test_the_end_tells_the_mark_behind_all_else(self) -> None:
+        broker, site = self.broker(), self.sites[0]
+        carrier = self.carrier(0, PATIENT, 3_600.0, Mqtt(port=broker.port), wait=0.2)
+        self.await_it(lambda: carrier.medium.is_connected)
+        broker.pause(0.5)
+        for _ in range(24):                             # more than are on their way at once
+            site.give(1, "stock", Kind.RAISE, 1)
+        mark = site.newest_mark()
+        carrier.close()
+        self.assertEqual(last_mark(site.folder, Mqtt(port=broker.port)), mark)
 
     @unittest.skipUnless(shutil.which("openssl"), "openssl isn't installed")
     def test_over_tls(self) -> None:
         broker = self.broker(is_secret=True)
         media = [Mqtt("localhost", broker.port, ca=broker.certificate) for _ in range(3)]
-        carriers = self.met([self.carrier(it, PATIENT, 1.0, medium) for it, medium in enumerate(media)])
+        carriers = self.met([self.carrier(it, PATIENT, 1.0, medium, wait=0.2) for it, medium in enumerate(media)])
         carriers[0].change("stock", -10)
         carriers[0].change("stock", -4)
-        self.assertEqual(self.lower(), [1, 5, 10])
+        self.assertEqual((self.lower(), self.is_without_delay(media[0])), ([1, 5, 10], True))
         plain, stranger = Mqtt(port=broker.port), Mqtt("localhost", broker.port, ca=self.another_certificate())
         for it in (plain, stranger):
             it.open("else", [], lambda _topic, _payload: None, lambda: None)

@@ -6,6 +6,7 @@ import os
 import shutil
 import signal
 import tempfile
+import threading
 import time
 import unittest
 from collections.abc import Callable
@@ -42,8 +43,8 @@ class Sites(unittest.TestCase):
         return site
 
     def carrier(self, number: int, policy: Policy = CALM, refresh: float = 30.0,
-                medium: Optional[Medium] = None) -> Carrier:
-        made = Carrier(self.sites[number], medium or self.hub.port(), policy, refresh)
+                medium: Optional[Medium] = None, wait: float = 2.0) -> Carrier:
+        made = Carrier(self.sites[number], medium or self.hub.port(), policy, refresh, wait=wait)
         self.addCleanup(made.close)
         return made
 
@@ -84,17 +85,40 @@ class CarrierTest(Sites):
             carriers[0].change("stock", -1)
         self.assertEqual([site.read("stock").lo for site in self.sites], [0, 0, 0])
 
-    def test_who_was_empty_is_asked_too(self) -> None:
-        policy = Policy(quiet=NEVER, patience=2.0)
-        carriers = self.met([self.carrier(number, policy) for number in range(3)])
+    def test_who_was_empty_is_asked_once_it_tells_of_more(self) -> None:
+        carriers = self.met([self.carrier(number, CALM, 0.2) for number in range(3)])
         for site in self.sites:
             site.change("stock", -10)
+        self.await_it(lambda: carriers[0].known("stock", Kind.LOWER) == {1: 0, 2: 0})
         with self.assertRaises(Short):
-            carriers[0].change("stock", -1)             # and both others told that they have none
+            carriers[0].change("stock", -1)
         self.sites[2].change("stock", 12)
-        time.sleep(policy.patience)                     # until then nobody is asked again
+        self.await_it(lambda: carriers[0].known("stock", Kind.LOWER) == {1: 0, 2: 12})
         carriers[0].change("stock", -5)                 # 50 are asked of site 2, which gives 6, half of its 12
-        self.assertEqual(self.lower(), [1, 0, 6])
+        self.assertEqual((self.lower(), carriers[0].counts.asked), ([1, 0, 6], 1))
+
+    def test_what_all_together_have_not_got_is_asked_of_nobody(self) -> None:
+        carriers = self.carriers()
+        began = time.monotonic()
+        with self.assertRaises(Short) as short:
+            carriers[0].change("stock", -31)
+        self.assertLess(time.monotonic() - began, 1)
+        self.assertEqual((short.exception.share, self.lower(), carriers[0].counts.asked), (10, [10, 10, 10], 0))
+        carriers[0].change("stock", -30)                # and that holds up no other sale
+        self.assertEqual(self.lower(), [0, 0, 0])
+
+    def test_who_has_told_nothing_is_asked_and_no_more_once_it_has_told(self) -> None:
+        carrier = self.carrier(0, Policy(quiet=NEVER, patience=1.0))
+        self.hub.tell(f"{self.top}/1/shares", "stock 10 23\n", True)
+        self.await_it(lambda: carrier.known("stock", Kind.LOWER) == {1: 10, 2: None})
+        self.assertFalse(carrier.fetch("stock", Kind.LOWER, 31))
+        self.assertEqual(carrier.counts.asked, 2)       # of site 1 and site 2, for which nobody answers
+        time.sleep(1)                                   # until then nobody is asked again
+        timer = threading.Timer(0.3, self.hub.tell, (f"{self.top}/2/shares", "stock 10 23\n", True))
+        timer.start()
+        self.assertFalse(carrier.fetch("stock", Kind.LOWER, 31))
+        self.assertEqual(carrier.counts.asked, 3)
+        timer.join()
 
     def test_tasks_sell_all_that_there_is(self) -> None:
         carriers = self.carriers()
@@ -194,7 +218,7 @@ class CarrierTest(Sites):
         self.assertEqual(self.lower(), left)
 
     def test_what_is_on_its_way_is_not_given_twice(self) -> None:
-        carriers = self.met([self.carrier(number, CALM, 1.0) for number in range(3)])
+        carriers = self.met([self.carrier(number, CALM, 2.0) for number in range(3)])
         carriers[2].close()                             # of the others one is left to give
         self.sites[0].change("stock", -10)
         self.await_it(lambda: carriers[1].known("stock", Kind.LOWER) == {0: 0})
@@ -202,7 +226,7 @@ class CarrierTest(Sites):
         assert pid is not None
         os.kill(pid, signal.SIGSTOP)
         carriers[1].policy = Policy(quiet=0.3)
-        time.sleep(2.5)                                 # two or three looks, before site 0 is held for away
+        time.sleep(5)                                   # two or three looks, before site 0 is held for away
         given = carriers[1].counts.evened
         os.kill(pid, signal.SIGCONT)
         self.assertEqual(given, 5)
@@ -215,11 +239,11 @@ class CarrierTest(Sites):
         time.sleep(2)
         self.sites[0].change("stock", -10)
         self.await_it(lambda: self.lower() == [5, 5, 10])
-        asked = carriers[0].counts.asked
         with self.assertRaises(Short):
-            carriers[0].change("stock", -11)
-        self.assertEqual(self.lower()[0] + self.lower()[1], 10)
-        self.assertGreater(carriers[0].counts.asked, asked)
+            carriers[0].change("stock", -11)            # the two that are there have 10
+        self.assertEqual((self.lower()[:2], carriers[0].counts.asked), ([5, 5], 0))
+        carriers[0].change("stock", -7)                 # site 1 gives 3, half of its 5
+        self.assertEqual((sum(self.lower()[:2]), carriers[0].counts.asked), (3, 1))
         self.assertEqual(self.sites[2].read("stock"), Interval(10, 77))
 
     def test_an_old_copy_of_a_log_is_found(self) -> None:
@@ -246,14 +270,22 @@ class CarrierTest(Sites):
         numbers = Metrics(0)
         carrier = Carrier(self.sites[0], self.hub.port(), CALM, metrics=numbers)
         self.addCleanup(carrier.close)
-        self.hub.tell(f"{self.top}/1/given/0/stock/lower", str(10**17), False)
+        with self.assertLogs("escrow.carrier", "ERROR") as logs:
+            self.hub.tell(f"{self.top}/1/given/0/stock/lower", str(10**17), False)
+            self.await_it(lambda: carrier.counts.forged == 1)
+        self.assertEqual([it.getMessage() for it in logs.records], [
+            f"{self.sites[0].folder}: a forged statement: that site 1 gave {10**17} rights to lower stock, where there "
+            "is room for 66: see who can write to its topics"])
         self.sites[1].give(0, "stock", Kind.LOWER, 3)
         self.carrier(1)
         self.await_it(lambda: self.lower() == [13, 7, 10])
         told = text_of([numbers]).splitlines()
-        for line in ('escrow_carrier_forged_total{site="0"} 1', 'escrow_carrier_gained_total{site="0"} 3',
-                     'escrow_carrier_accepted_total{site="0"} 1', 'escrow_carrier_connected{site="0"} 1'):
+        for line in ('escrow_carrier_forged_total{site="0",giver="1",field="stock"} 1',
+                     'escrow_carrier_forged_total{site="0",giver="2",field="stock"} 0',
+                     'escrow_carrier_gained_total{site="0"} 3', 'escrow_carrier_accepted_total{site="0"} 1',
+                     'escrow_carrier_connected{site="0"} 1'):
             self.assertIn(line, told)
+        self.assertEqual(sum(it.startswith("escrow_carrier_forged") for it in told), 2)
 
     def test_garbage_is_counted_and_does_nothing(self) -> None:
         carriers = self.carriers()
