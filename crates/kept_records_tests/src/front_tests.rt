@@ -1,7 +1,7 @@
 //! Logs that are read to a list of records, beside those that are read line by line, and those that
 //! are counted.
 
-use crate::lent_tests::NUMBERS;
+use crate::lent_tests::{NUMBERS, in_front};
 use crate::tests::{NO_RECORDS, RECORDS};
 use crate::told::{Told, by_words};
 use kept_records::*;
@@ -17,12 +17,10 @@ fn listed(alloc: Global, bytes: &[u8]) -> Option<Told> {
     Some(told)
 }
 
-/// What those tell that are read line by line, each word by word.
-fn walked(alloc: Global, bytes: &[u8]) -> Option<Told> {
-    let front = read_front(alloc, bytes).ok()?;
-    let log = bytes.get(..front.length)?;
-    match read_records(alloc, log) {
-        Ok(_) => by_words(alloc, log),
+/// What those tell that are read line by line, each word by word, of the bytes of records alone.
+fn walked(alloc: Global, records: &[u8]) -> Option<Told> {
+    match read_records(alloc, records) {
+        Ok(_) => by_words(alloc, records),
         Err(_) => None,
     }
 }
@@ -42,24 +40,25 @@ fn counted_in_list(alloc: Global, bytes: &[u8]) -> Option<Counted> {
     Some((count_plain(&front.records), front.length, front.bad_line))
 }
 
-/// Whether each way tells the same of these bytes.
-fn agree(alloc: Global, bytes: &[u8]) -> Option<bool> {
-    let same = listed(alloc, bytes)?.is(&walked(alloc, bytes)?);
+/// Whether each way tells the same of these bytes, of which so many in front are records.
+fn agree(alloc: Global, bytes: &[u8], front: usize) -> Option<bool> {
+    let same = listed(alloc, bytes)?.is(&walked(alloc, bytes.get(..front)?)?);
     Some(same && counted(alloc, bytes)? == counted_in_list(alloc, bytes)?)
 }
 
-/// The same of each front of some lines, one behind the other.
-fn fronts_agree(alloc: Global, lines: &[&str]) -> Option<bool> {
+/// The same of each front of some lines, one behind the other, of which this one is no record.
+fn fronts_agree(alloc: Global, lines: &[&str], bad: &str) -> Option<bool> {
     let mut bytes = Vec::new(alloc);
     for line in lines {
         bytes.extend_from_slice(line.as_bytes()).ok()?;
     }
-    for length in 0..bytes.len() {
-        if !agree(alloc, &bytes[..length])? {
+    for length in 0..bytes.len().saturating_add(1) {
+        let (front, _) = in_front(lines, length, bad);
+        if !agree(alloc, bytes.get(..length)?, front)? {
             return Some(false);
         }
     }
-    agree(alloc, &bytes)
+    Some(true)
 }
 
 /// A log of each kind of record, with commits of 1, 4, 5, 16 and again 1 escrows, and a torn end.
@@ -107,9 +106,9 @@ fn records_of_each_kind_are_listed(rt: HostRuntime) {
 #[test]
 fn listed_and_counted_as_read_by_line(rt: HostRuntime) {
     let alloc = rt.alloc();
-    assert_eq!(rt; fronts_agree(alloc, &EACH_KIND), Some(true));
-    assert_eq!(rt; fronts_agree(alloc, &NUMBERS), Some(true));
-    assert_eq!(rt; fronts_agree(alloc, &RECORDS), Some(true));
+    assert_eq!(rt; fronts_agree(alloc, &EACH_KIND, ""), Some(true));
+    assert_eq!(rt; fronts_agree(alloc, &NUMBERS, ""), Some(true));
+    assert_eq!(rt; fronts_agree(alloc, &RECORDS, ""), Some(true));
 }
 
 #[test]
@@ -117,7 +116,7 @@ fn listed_and_counted_up_to_a_line_that_is_no_record(rt: HostRuntime) {
     let alloc = rt.alloc();
     for line in &NO_RECORDS {
         let lines = ["C 0 1 0 -20\n", "S 0 1 20 30\n", *line, "C 0 2 0 5 1 6\n"];
-        assert_eq!(rt; fronts_agree(alloc, &lines), Some(true));
+        assert_eq!(rt; fronts_agree(alloc, &lines, *line), Some(true));
     }
 }
 

@@ -30,7 +30,7 @@ fn lent(alloc: Global, bytes: &[u8]) -> Result<Walked, AllocError> {
 
 /// Of so many bytes of some lines, how many those are that stand in front of the first line that
 /// isn't whole, or that is this one; and whether it is this one.
-fn in_front(lines: &[&str], length: usize, bad: &str) -> (usize, bool) {
+pub(crate) fn in_front(lines: &[&str], length: usize, bad: &str) -> (usize, bool) {
     let mut front: usize = 0;
     for line in lines {
         let end = front.saturating_add(line.len());
