@@ -129,16 +129,32 @@ fn told_lines(told: Option<Told<'_>>) -> Result<Told<'_>, IdentityFault>
     }
 }
 
+// What stands behind the line of version 1, or None where the first line is another.
+fn behind_first(text: &[u8]) -> Option<&[u8]>
+    ensures rest { MatchOption result ((rest : List ℕ) → text.now ≢ line_then (codes "escrow site 1") rest)
+        (λ rest. text.now ≡ line_then (codes "escrow site 1") rest.now) }
+{
+    behind(text, b"escrow site 1\n")
+}
+
+// What stands behind the line of version 2, or None where the first line is another.
+fn behind_second(text: &[u8]) -> Option<&[u8]>
+    ensures rest { MatchOption result ((rest : List ℕ) → text.now ≢ line_then (codes "escrow site 2") rest)
+        (λ rest. text.now ≡ line_then (codes "escrow site 2") rest.now) }
+{
+    behind(text, b"escrow site 2\n")
+}
+
 /// What the lines of a text tell. The fault is `Version` or `NoIdentity`.
 pub(crate) fn read_lines(text: &[u8]) -> Result<Told<'_>, IdentityFault>
     ensures ok { IfOk result (λ told. TellsLines text.now (option_map (λ n. n.now) told.name)
         told.number told.world.now told.header.now) }
     ensures err { IfErr result (IsRefused text.now) }
 {
-    if let Some(rest) = behind(text, b"escrow site 1\n") {
+    if let Some(rest) = behind_first(text) {
         return told_lines(read_first(rest));
     }
-    if let Some(rest) = behind(text, b"escrow site 2\n") {
+    if let Some(rest) = behind_second(text) {
         return told_lines(read_second(rest));
     }
     Err(IdentityFault::Version)
