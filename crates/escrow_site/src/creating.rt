@@ -23,7 +23,10 @@ fn schema_fault(alloc: Global, schema: &str, number: u64, fault: IdentityFault) 
         IdentityFault::Lines => Why::ManyLines,
         IdentityFault::Header(fault) => Why::Header(fault, header_words(fault)),
         IdentityFault::Number => Why::NoNumber(number),
-        IdentityFault::Version | IdentityFault::NoIdentity | IdentityFault::World => Why::Damaged,
+        IdentityFault::Version
+        | IdentityFault::NoIdentity
+        | IdentityFault::World
+        | IdentityFault::Name => Why::Damaged,
         IdentityFault::NoMemory => return Fault::NoMemory,
     };
     asked(alloc, schema, why)

@@ -59,7 +59,7 @@ pub(crate) fn read_file(rt: &HostRuntime, path: &str, missing: Why) -> Result<Ve
 fn why_refused(fault: IdentityFault) -> Option<Why> {
     match fault {
         IdentityFault::Version => Some(Why::OtherVersion),
-        IdentityFault::NoIdentity => Some(Why::Damaged),
+        IdentityFault::NoIdentity | IdentityFault::Name => Some(Why::Damaged),
         IdentityFault::World => Some(Why::HeaderChanged),
         IdentityFault::Lines => Some(Why::ManyLines),
         IdentityFault::Header(fault) => Some(Why::Header(fault, header_words(fault))),

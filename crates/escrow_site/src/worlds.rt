@@ -52,13 +52,18 @@ fn read_folder(rt: &HostRuntime, folder: &str) -> Result<SiteFolder, Fault> {
     Ok(SiteFolder { paths, identity })
 }
 
+// Whether two sites are of one world: its header is the same, and so is its own name, or it has none.
+fn are_of_one_world(site: &Identity, other: &Identity) -> bool {
+    site.name() == other.name() && site.header() == other.header()
+}
+
 // Why a folder doesn't go with another one.
 fn why_not_beside(
     alloc: Global,
     folder: &SiteFolder,
     other: &SiteFolder,
 ) -> Result<Option<Why>, Fault> {
-    if folder.identity.header() != other.identity.header() {
+    if !are_of_one_world(&folder.identity, &other.identity) {
         let other = String::from_str(alloc, other.paths.folder.as_str())?;
         return Ok(Some(Why::OtherWorld(other)));
     }

@@ -11,15 +11,19 @@ use thiserror::Error;
 /// Why a text is no identity's, or a number and a header make none.
 #[derive(Clone, Copy, Debug, Drop, PartialEq, Eq, Error)]
 pub enum IdentityFault {
-    /// The first line isn't that of this version of the format.
-    #[error("its first line isn't `escrow site 1`")]
+    /// The first line is that of no version of the format.
+    #[error("its first line isn't `escrow site 1` or `escrow site 2`")]
     Version,
-    /// The first line is, and the others aren't a number, the name of a world and a header.
-    #[error("it isn't the four lines of a site")]
+    /// The first line is that of a version, and the others aren't a number, in version 2 a world's
+    /// own name, the name of a world and a header.
+    #[error("it isn't the lines of a site")]
     NoIdentity,
-    /// The name of the world isn't that of the header: one of the two was changed.
+    /// The name of the world isn't that of its own name and the header: one of them was changed.
     #[error("its world isn't that of its header")]
     World,
+    /// No world can have this name of its own.
+    #[error("a world's name has 1 to 64 of a-z A-Z 0-9 . _ -")]
+    Name,
     /// The header has more than one line.
     #[error("the header isn't one line")]
     Lines,

@@ -1,7 +1,7 @@
-//! What the names of files tell, as the contract of a function that does nothing.
+//! What the names of files and the texts of worlds tell, as contracts of functions that do nothing.
 
 ghost use Rattle.std.specs.Prelude.{◌≡◌, ◌≢◌, ◌++◌, ℕ, List};
-ghost use Rattle.site_folder.specs.Identity.{IdentityValue, IsIdentity, log_name, trace_name, HaveOneName};
+ghost use Rattle.site_folder.specs.Identity.{IdentityValue, IsIdentity, world_text, log_name, trace_name, HaveOneName, AreOneWorld};
 
 /// Bytes that begin with the names of two logs are of one site: of one number, in worlds of one
 /// name (`apart`). So the log of another site, put in the place of a site's own, doesn't begin with
@@ -14,4 +14,12 @@ pub fn names_tell_sites_apart()
         → trace_name v ++ rest ≡ trace_name w ++ more → HaveOneName v w }
     ensures kinds { (v w : IdentityValue) (rest more : List ℕ)
         → log_name v ++ rest ≢ trace_name w ++ more }
+{}
+
+/// Worlds whose texts are alike have the same name of their own, or both none, and the same header. So
+/// a world with a name is told from all worlds of its header that have another one or none. The name
+/// of a world is the SHA-256 of its text: nothing is said of two texts with one SHA-256.
+pub fn worlds_have_texts_of_their_own()
+    ensures { (v w : IdentityValue) → IsIdentity v → IsIdentity w
+        → world_text v.name v.header ≡ world_text w.name w.header → AreOneWorld v w }
 {}

@@ -1,25 +1,50 @@
 //! Identities as text.
 
-ghost use Rattle.std.specs.Prelude.{◌≡◌, ◌≢◌, ◌⊎◌, OnOk, IfOk, IfErr, MatchResult};
-ghost use Rattle.site_folder.specs.Identity.{IdentityValue, IsIdentity, world_name, identity_text, file_name, log_name, trace_name};
+ghost use Rattle.std.specs.Prelude.{◌≡◌, ◌≢◌, ◌++◌, ◌⊎◌, OnOk, IfOk, IfErr, MatchResult, option_map};
+ghost use Rattle.site_folder.specs.Identity.{IdentityValue, IsIdentity, world_digest, version_line, name_behind, identity_text, file_name, log_name, trace_name};
 ghost use Rattle.site_folder.specs.Reading.{IsRefused};
 
 use crate::fault::IdentityFault;
 use crate::identity::{Identity, world_name};
-use crate::lines::read_lines;
+use crate::lines::{Told, read_lines};
 use itoa::Buffer;
 use std::alloc::{AllocError, Global};
 
-/// The text of an identity: four lines, each with a line feed at its end. Each identity has one
-/// text, and no two have the same. The error is want of memory. Costs the memory of the text.
+// The name of the format and its version: 1 for a world with no name of its own, else 2.
+fn version_of(name: Option<&[u8]>) -> &'static [u8]
+    ensures line { result.now ≡ version_line (option_map (λ n. n.now) name.entry) }
+{
+    match name {
+        Some(_) => b"escrow site 2",
+        None => b"escrow site 1",
+    }
+}
+
+// Writes a line for a name that is there, behind its line feed.
+fn push_name(text: &mut Vec<u8>, name: Option<&[u8]>) -> Result<(), AllocError>
+    ensures line { OnOk result (text.new.items ≡ text.old.items ++ name_behind
+        (option_map (λ n. n.now) name.entry)) }
+{
+    if let Some(name) = name {
+        text.extend_from_slice(b"\nname ")?;
+        text.extend_from_slice(name)?;
+    }
+    Ok(())
+}
+
+/// The text of an identity: four lines, or five where the world has a name of its own, each with a
+/// line feed at its end. Each identity has one text, and no two have the same. The error is want of
+/// memory. Costs the memory of the text.
 pub fn write_identity(alloc: Global, identity: &Identity) -> Result<Vec<u8>, AllocError>
     ensures text { IfOk result (λ text. text.items ≡ identity_text identity.now) }
 {
     let mut number = Buffer::new();
-    let world = world_name(alloc, identity.header())?;
+    let world = identity.world(alloc)?;
     let mut text = Vec::new(alloc);
-    text.extend_from_slice(b"escrow site 1\nnumber ")?;
+    text.extend_from_slice(version_of(identity.name()))?;
+    text.extend_from_slice(b"\nnumber ")?;
     text.extend_from_slice(number.format(identity.number().0).as_bytes())?;
+    push_name(&mut text, identity.name())?;
     text.extend_from_slice(b"\nworld ")?;
     text.extend_from_slice(world.as_bytes())?;
     text.extend_from_slice(b"\n")?;
@@ -33,7 +58,7 @@ fn file_name(alloc: Global, version: &[u8], identity: &Identity) -> Result<Vec<u
     ensures name { IfOk result (λ name. name.items ≡ file_name version.now identity.now) }
 {
     let mut number = Buffer::new();
-    let world = world_name(alloc, identity.header())?;
+    let world = identity.world(alloc)?;
     let mut name = Vec::new(alloc);
     name.extend_from_slice(version)?;
     name.extend_from_slice(b"\nnumber ")?;
@@ -62,14 +87,16 @@ pub fn trace_name(alloc: Global, identity: &Identity) -> Result<Vec<u8>, AllocEr
     file_name(alloc, b"escrow trace 1", identity)
 }
 
-// Refuses the name of a world that isn't that of the header.
-fn check_world(alloc: Global, world: &[u8], header: &[u8]) -> Result<(), IdentityFault>
-    ensures ok { OnOk result (world.now ≡ world_name header.now) }
+// Refuses the name of a world that isn't that of its own name and its header.
+fn check_world(alloc: Global, told: &Told<'_>) -> Result<(), IdentityFault>
+    ensures ok { OnOk result (told.now.world.now ≡ world_digest (option_map (λ n. n.now) told.now.name)
+        told.now.header.now) }
     ensures err { IfErr result (λ fault. (fault ≡ IdentityFault.NoMemory)
-        ⊎ ((fault ≡ IdentityFault.World) × (world.now ≢ world_name header.now))) }
+        ⊎ ((fault ≡ IdentityFault.World)
+        × (told.now.world.now ≢ world_digest (option_map (λ n. n.now) told.now.name) told.now.header.now))) }
 {
-    let name = world_name(alloc, header)?;
-    if world == name.as_bytes() {
+    let name = world_name(alloc, told.name, told.header)?;
+    if told.world == name.as_bytes() {
         Ok(())
     } else {
         Err(IdentityFault::World)
@@ -79,9 +106,10 @@ fn check_world(alloc: Global, world: &[u8], header: &[u8]) -> Result<(), Identit
 /// The identity whose text it is.
 ///
 /// The fault is the first of these that holds: `Version`, another first line; `NoIdentity`, other
-/// lines behind it; `World`, the name of the world isn't that of the header; `Header`, the header
-/// tells no schema; `Number`, no site of it has the number. `NoMemory` can come in place of any
-/// answer. Costs a pass over the text, a parse of the header, and memory for it and its schema.
+/// lines behind it than those of its version; `World`, the name of the world isn't that of its own
+/// name and the header; `Name`, no world can have this name of its own; `Header`, the header tells no
+/// schema; `Number`, no site of it has the number. `NoMemory` can come in place of any answer. Costs a
+/// pass over the text, a parse of the header, and memory for it, the name and the schema.
 pub fn read_identity(alloc: Global, text: &[u8]) -> Result<Identity, IdentityFault>
     ensures found { IfOk result (λ identity. text.now ≡ identity_text identity) }
     ensures only { (identity : IdentityValue) → IsIdentity identity
@@ -91,6 +119,6 @@ pub fn read_identity(alloc: Global, text: &[u8]) -> Result<Identity, IdentityFau
     ensures refused { IfErr result (IsRefused text.now) }
 {
     let told = read_lines(text)?;
-    check_world(alloc, told.world, told.header)?;
-    Identity::new(alloc, told.number, told.header)
+    check_world(alloc, &told)?;
+    Identity::of_parts(alloc, told.name, told.number, told.header)
 }

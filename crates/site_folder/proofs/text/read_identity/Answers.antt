@@ -10,4 +10,4 @@ returns-in_err-check_world-clause-only c =
     only_by c.args.text.now c.from_residual-in_err-check_world.result (search rules) (search rules) (search rules)
 
 pub returns-clause-only : goal.returns-clause-only
-returns-clause-only c = only_by c.args.text.now c.new.result c.new.ensures.own (search rules) (search rules)
+returns-clause-only c = only_by c.args.text.now c.of_parts.result c.of_parts.ensures.own (search rules) (search rules)
