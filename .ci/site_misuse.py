@@ -41,8 +41,10 @@ NAME = SHOP.name()
 DAMAGED = "isn't as create wrote it: put it back from a copy"
 CHANGED = "the header was changed: put it back from a copy, as create wrote it"
 SITES = (
-    ("", "isn't of escrow site 1: serve it by the version that made it"),
-    (site_text(version="2"), "isn't of escrow site 1: serve it by the version that made it"),
+    ("", "isn't of escrow site 1 or 2: serve it by the version that made it"),
+    (site_text(version="3"), "isn't of escrow site 1 or 2: serve it by the version that made it"),
+    (site_text(version="2"), DAMAGED),
+    (site_text(version="2").replace("\nworld", "\nname a/b\nworld"), CHANGED),
     (site_text()[:-1], DAMAGED),
     (f"{site_text()}\n", DAMAGED),
     (site_text(number="00"), DAMAGED),

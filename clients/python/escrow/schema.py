@@ -8,7 +8,9 @@ from typing import NamedTuple
 
 from .errors import Down
 
-FIRST_LINE = "escrow site 1"
+# The first line of a folder's file `site`, and what the lines behind it begin with: in version 2 a world has a name of its
+# own.
+VERSIONS = {"escrow site 1": ("number ", "world "), "escrow site 2": ("number ", "name ", "world ")}
 
 
 class Field(NamedTuple):
@@ -53,10 +55,10 @@ def identity(folder: str) -> Identity:
     path = os.path.join(folder, "site")
     try:
         with open(path, encoding="utf-8") as file:
-            first, number, world, header = file.read().split("\n")[:4]
-        if first != FIRST_LINE:
-            raise ValueError(first)
-        return Identity(int(number.split(" ")[1]), world.split(" ")[1], Schema.parse(header))
+            first, *lines = file.read().split("\n")
+        words = VERSIONS[first]
+        told = {word: line.removeprefix(word) for word, line in zip(words, lines)}
+        return Identity(int(told["number "]), told["world "], Schema.parse(lines[len(words)]))
     except OSError as fault:
         raise Down(f"{path}: {fault.strerror}: a site's folder is made by create", 3) from fault
     except (ValueError, KeyError, IndexError, TypeError) as fault:

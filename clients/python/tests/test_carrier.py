@@ -92,6 +92,12 @@ class ListTest(unittest.TestCase):
         self.assertEqual(self.asked("shop0"), (0, f"user site0\ntopic write {top}/0/#\ntopic read {top}/+/given/0/+/+\n"
                          f"topic read {top}/+/ask/0/+/+\ntopic read {top}/+/shares\ntopic read {top}/0/mark\n\n", ""))
 
+    def test_a_list_of_a_world_with_a_name_of_its_own(self) -> None:
+        header = '{"sites":2,"fields":[{"name":"stock","floor":0,"ceiling":9,"value":5}]}'
+        self.write("shop1", f"escrow site 2\nnumber 1\nname concert-17\nworld {self.WORLD}\n{header}\n")
+        status, out, told = self.asked("shop1")
+        self.assertEqual((status, out.split("\n")[:2], told), (0, ["user site1", f"topic write escrow/{self.WORLD}/1/#"], ""))
+
     def test_what_is_no_site_is_one_line_and_no_list(self) -> None:
         self.write("torn", "escrow site 1\nnumber 0\n")
         made = "a site's folder is made by create"

@@ -73,11 +73,11 @@ class VersionTest(SiteTest):
         self.assertEqual((done.returncode, done.stdout, done.stderr), (0, told, ""))
 
     def test_another_version(self) -> None:
-        for name, why in (("site", "isn't of escrow site 1: serve it by the version that made it"),
+        for name, why in (("site", "isn't of escrow site 1 or 2: serve it by the version that made it"),
                           ("log", "isn't the log of this site: put its own newest log back"),
                           ("trace", "isn't the trace of this site: put its own newest trace back")):  # fmt: skip
             with self.subTest(name):
-                later = VERSION_1[name].replace(" 1\n", " 2\n", 1)
+                later = VERSION_1[name].replace(" 1\n", " 3\n", 1)
                 done = self.serve({**VERSION_1, name: later})
                 told = f"escrow_site: {self.place}/shop/{name}: {why}\n"
                 self.assertEqual((done.returncode, done.stdout, done.stderr), (3, "", told))

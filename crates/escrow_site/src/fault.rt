@@ -20,7 +20,7 @@ pub(crate) enum Why {
     FolderThere,
     #[error("isn't there: a site's folder is made by create")]
     NoSite,
-    #[error("isn't of escrow site 1: serve it by the version that made it")]
+    #[error("isn't of escrow site 1 or 2: serve it by the version that made it")]
     OtherVersion,
     #[error("isn't as create wrote it: put it back from a copy")]
     Damaged,

@@ -4,9 +4,9 @@ use Rattle.field_bounds.specs.declared.kind.Kind.{Kind}
 use Rattle.field_bounds.specs.declared.id.SiteNo.{SiteNo}
 use Rattle.field_bounds.specs.declared.id.FieldNo.{FieldNo}
 use Rattle.field_bounds.specs.declared.entry.Command.{Command}
-use Rattle.field_bounds.specs.declared.entry.Command.TheVariants.{Spare}
+use Rattle.field_bounds.specs.declared.entry.Command.TheVariants.{Begin, Escrow, Commit, Abort, Give, Restate, Spare, Tighten, Accept, Read, Share, Restart}
 use Rattle.field_bounds.specs.declared.entry.Reply.{Reply}
-use Rattle.field_bounds.specs.declared.entry.Reply.TheVariants.{Restarted}
+use Rattle.field_bounds.specs.declared.entry.Reply.TheVariants.{Begun, Granted, Committed, Aborted, Given, Stated, Spared, Tightened, Accepted, Between, Shares, Restarted, Unsure, StillDown, Refused}
 use Rattle.field_bounds.specs.declared.entry.Entry.{Entry}
 use Rattle.field_bounds.specs.declared.effect.Effect.{Effect}
 use Rattle.field_bounds.specs.Schema.{SchemaValue}
@@ -29,8 +29,18 @@ doubt_kept_in s (e ∷ later) = if e.site.0 == s then doubt_kept_before (doubt_k
 
 -- On which field, of which kind and how much a spare wants.
 abbrev pub wanted_by : Command → Option (FieldNo × Kind × ℕ)
+wanted_by Begin = None
+wanted_by (Escrow txn field change) = None
+wanted_by (Commit txn) = None
+wanted_by (Abort txn) = None
+wanted_by (Give to field kind amount) = None
+wanted_by (Restate to field kind) = None
 wanted_by (Spare to field kind want) = Some (field, kind, want)
-wanted_by command = None
+wanted_by (Tighten field kind amount) = None
+wanted_by (Accept told) = None
+wanted_by (Read field) = None
+wanted_by (Share field) = None
+wanted_by Restart = None
 
 -- What is spared behind these effects where so much is wanted.
 abbrev pub spared_for : Base → List Effect → Option (FieldNo × Kind × ℕ) → ℕ
@@ -76,8 +86,21 @@ AreReadIn schema f trace i rows =
 
 -- Whether a reply tells what became of what stood in doubt.
 abbrev pub ends_doubt : Reply → Bool
+ends_doubt (Begun txn) = false
+ends_doubt Granted = false
+ends_doubt Committed = false
+ends_doubt Aborted = false
+ends_doubt (Given total) = false
+ends_doubt (Stated total) = false
+ends_doubt (Spared amount total) = false
+ends_doubt (Tightened total) = false
+ends_doubt (Accepted gain) = false
+ends_doubt (Between lo hi) = false
+ends_doubt (Shares lower raise) = false
 ends_doubt (Restarted epoch found) = true
-ends_doubt reply = false
+ends_doubt Unsure = false
+ends_doubt StillDown = false
+ends_doubt (Refused refusal) = false
 
 -- For each site, what took effect there.
 unfoldable pub AllTold : SchemaValue → ℕ → List Entry → List Standing → Type 0

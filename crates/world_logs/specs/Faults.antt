@@ -40,14 +40,16 @@ pub record IsFirstExcess (Among : ℕ → ℕ → ℕ → Type 0) (logs : List (
 -- What a fault of one log tells.
 abbrev pub TellsOfLog : SchemaValue → ℕ → List Record → WorldFault → Type 0
 TellsOfLog schema s rs (BreaksRule site number) = (site.0 ≡ s) × IsFirstBroken schema s rs number
+TellsOfLog schema s rs (AcceptedMore excess) = ⊥
+TellsOfLog schema s rs (TooMuch field) = ⊥
 TellsOfLog schema s rs NoMemory = Unit {0}
-TellsOfLog schema s rs fault = ⊥
 
 -- What a fault of the logs, each by itself, tells.
 abbrev pub TellsUnlawful : SchemaValue → List (List Record) → WorldFault → Type 0
 TellsUnlawful schema logs (BreaksRule site number) = IsFirstUnlawful schema logs site.0 number
+TellsUnlawful schema logs (AcceptedMore excess) = ⊥
+TellsUnlawful schema logs (TooMuch field) = ⊥
 TellsUnlawful schema logs NoMemory = Unit {0}
-TellsUnlawful schema logs fault = ⊥
 
 -- What a fault of the logs together tells.
 abbrev pub TellsFault : SchemaValue → List (List Record) → WorldFault → Type 0

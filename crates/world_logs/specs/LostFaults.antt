@@ -17,9 +17,10 @@ KnownWithin schema known =
 
 -- What a fault of the sums over the known sites tells.
 abbrev pub TellsTooMuch : SchemaValue → List (Option (List Record)) → WorldFault → Type 0
+TellsTooMuch schema known (BreaksRule site number) = ⊥
+TellsTooMuch schema known (AcceptedMore excess) = ⊥
 TellsTooMuch schema known (TooMuch field) = IsFirstTooMuch schema known field.0
 TellsTooMuch schema known NoMemory = Unit {0}
-TellsTooMuch schema known fault = ⊥
 
 -- What a fault of the known logs tells.
 abbrev pub TellsKnownFault : SchemaValue → List (Option (List Record)) → WorldFault → Type 0
