@@ -85,6 +85,7 @@ COMMAND_LINES: tuple[tuple[list[str], str], ...] = (
     (["create"], "--schema"),
     (["create", "shop", "--schema", "s", "--site", "-1"], "-1"),
     (["create", "shop", "--schema", "s", "--site", "one"], "one"),
+    (["create", "shop", "--schema", "s", "--site", "0", "--name"], "--name"),
     (["serve"], "FOLDER"),
     (["serve", "shop", "--not-before", "1"], "--not-before"),
     (["serve", "shop", "--not-before", "1", "two"], "two"),
@@ -120,8 +121,39 @@ def refuse_schemas(program: Program) -> None:
         program.ends(["create", new, "--schema", schema, "--site", "1"], 2, "", f"{schema}: {told}")
     words = ["create", new, "--schema", f"{new}.json", "--site", "1"]
     program.ends(words, 2, "", f"{new}.json: {os.strerror(2)} (os error 2)")
+    schema = program.file("schema.json", f"{SHOP.header()}\n")
+    for name in ("", "a/b", "a b", "+", "#", "ä", "a\n", "a" * 65):
+        told = "--name: a world's name has 1 to 64 of a-z A-Z 0-9 . _ -"
+        program.ends(["create", new, "--schema", schema, "--site", "1", "--name", name], 2, "", told)
     if os.path.exists(new):
         raise Fault(f"{new}: refused, and made")
+
+
+def tell_worlds_apart(program: Program) -> None:
+    """Worlds of one header, each with a name of its own or none: the files tell the name, and no two go together, nor is the
+    log of the one taken for that of the other."""
+    schema = program.file("schema.json", f"{SHOP.header()}\n")
+    names = {"rehearsal": "Rehearsal_1.0", "real": "z" * 64, "nameless": ""}
+    for folder, name in names.items():
+        words = ["create", os.path.join(program.folder, folder), "--schema", schema, "--site", "0"]
+        program.ends([*words, "--name", name] if name else words, 0, "", "")
+    named = {folder: os.path.join(program.folder, folder) for folder in names}
+    for folder, name in names.items():
+        world = hashlib.sha256(f"{name}\n{SHOP.header()}".encode()).hexdigest() if name else NAME
+        lines = ["number 0", *([f"name {name}"] if name else []), f"world {world}"]
+        version = 2 if name else 1
+        wanted = {"site": "\n".join([f"escrow site {version}", *lines, SHOP.header(), ""]).encode(),
+                  "log": f"escrow log 1\nnumber 0\nworld {world}\n".encode()}  # fmt: skip
+        if files_of(named[folder]) != wanted:
+            raise Fault(f"{named[folder]}: {files_of(named[folder])}, and not {wanted}")
+        program.ends(["serve", named[folder]], 0, FIRST.format(1, 4, 1), "", b"")
+    for one, other in (("rehearsal", "real"), ("real", "nameless"), ("nameless", "rehearsal")):
+        told = f"{named[other]}: isn't of the world of {named[one]}: name the folders of one world"
+        for word in ("check", "settle", "weave"):
+            program.ends([word, named[one], named[other]], 2, "", told)
+    os.replace(f"{named['rehearsal']}/log", f"{named['real']}/log")
+    told = f"{named['real']}/log: isn't the log of this site: put its own newest log back"
+    program.ends(["serve", named["real"]], 3, "", told)
 
 
 def refuse_folders(program: Program) -> None:
@@ -411,6 +443,7 @@ def refuse_second(program: Program) -> None:
 MISUSES = (
     refuse_command_lines,
     refuse_schemas,
+    tell_worlds_apart,
     refuse_folders,
     refuse_logs,
     refuse_exchanged,

@@ -43,13 +43,17 @@ def run(program: Optional[Path], words: Sequence[str], given: Optional[str] = No
     return told.stdout
 
 
-def create(folder: Path, schema: Union[Schema, Path], number: int, program: Optional[Path] = None) -> None:
+def create(folder: Path, schema: Union[Schema, Path], number: int, program: Optional[Path] = None, *,
+           name: Optional[str] = None) -> None:
     """Makes the folder of a site: once for each site of a world, and never again.
 
-    `schema` is that of the world, or the path of a file that has its header. Raises `ProgramError`: with status 3 where
-    something is at the path, with 2 where the schema is refused or hasn't the site.
+    `schema` is that of the world, or the path of a file that has its header, and `name` is the world's own: 1 to 64 of
+    `a-z A-Z 0-9 . _ -`, the same for all of its sites, and no other world's. Worlds of one schema without a name are one
+    world to carriers, and rights of the one would be spent in the other. Raises `ProgramError`: with status 3 where
+    something is at the path, with 2 where the schema or the name is refused or the world hasn't the site.
     """
-    words = ["create", os.fspath(folder), "--site", str(number), "--schema"]
+    named = [] if name is None else ["--name", name]
+    words = ["create", os.fspath(folder), *named, "--site", str(number), "--schema"]
     if isinstance(schema, Schema):
         run(program, [*words, "/dev/stdin"], schema.line() + "\n")
     else:

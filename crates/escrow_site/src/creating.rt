@@ -23,23 +23,39 @@ fn schema_fault(alloc: Global, schema: &str, number: u64, fault: IdentityFault) 
         IdentityFault::Lines => Why::ManyLines,
         IdentityFault::Header(fault) => Why::Header(fault, header_words(fault)),
         IdentityFault::Number => Why::NoNumber(number),
-        IdentityFault::Version
-        | IdentityFault::NoIdentity
-        | IdentityFault::World
-        | IdentityFault::Name => Why::Damaged,
+        IdentityFault::Version | IdentityFault::NoIdentity | IdentityFault::World => Why::Damaged,
+        IdentityFault::Name => return asked(alloc, "--name", Why::NoName),
         IdentityFault::NoMemory => return Fault::NoMemory,
     };
     asked(alloc, schema, why)
 }
 
+// The site of a number in the world of a header, which has this name of its own, or none.
+fn site_in(
+    alloc: Global,
+    name: &Option<String>,
+    number: u64,
+    header: &[u8],
+) -> Result<Identity, IdentityFault> {
+    match name {
+        Some(name) => Identity::named(alloc, name.as_bytes(), number, header),
+        None => Identity::new(alloc, number, header),
+    }
+}
+
 // The site of a number in the world of a schema's file.
-fn read_schema(rt: &HostRuntime, schema: &str, number: u64) -> Result<Identity, Fault> {
+fn read_schema(
+    rt: &HostRuntime,
+    schema: &str,
+    number: u64,
+    name: &Option<String>,
+) -> Result<Identity, Fault> {
     let alloc = rt.alloc();
     let text = match fs::read(rt, schema) {
         Ok(text) => text,
         Err(error) => return Err(unread(alloc, schema, error)),
     };
-    match Identity::new(alloc, number, header_of(text.as_slice())) {
+    match site_in(alloc, name, number, header_of(text.as_slice())) {
         Ok(identity) => Ok(identity),
         Err(fault) => Err(schema_fault(alloc, schema, number, fault)),
     }
@@ -117,8 +133,9 @@ pub(crate) fn create(
     folder: &str,
     schema: &str,
     number: u64,
+    name: &Option<String>,
 ) -> Result<(), Fault> {
-    let identity = read_schema(rt, schema, number)?;
+    let identity = read_schema(rt, schema, number, name)?;
     let paths = Paths::new(rt.alloc(), folder)?;
     make_site(rt, &paths, &identity)
 }

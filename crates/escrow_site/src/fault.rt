@@ -16,6 +16,8 @@ pub(crate) enum Why {
     Header(SchemaFault, &'static str),
     #[error("no site {0}: sites are numbered from 0")]
     NoNumber(u64),
+    #[error("a world's name has 1 to 64 of a-z A-Z 0-9 . _ -")]
+    NoName,
     #[error("is there already: create takes a path at which nothing is")]
     FolderThere,
     #[error("isn't there: a site's folder is made by create")]

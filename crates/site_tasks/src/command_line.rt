@@ -16,7 +16,7 @@ Each answer leaves it once the log has its record and is synced, so a stop at an
 moment loses nothing that was answered.
 
 Example:
-  escrow_site create shop --schema schema.json --site 0
+  escrow_site create shop --schema schema.json --site 0 --name shops-2026
   escrow_site serve shop < commands.txt
   escrow_site show shop
   escrow_site check shop0 shop1
@@ -30,8 +30,12 @@ const CREATE_ABOUT: &str = "Makes the folder of a site, with an empty log";
 const CREATE_EXAMPLE: &str = "\
 FILE has one line, the JSON header: the number of sites, 1 to 64, and 1 to 256
 fields, each with its floor, ceiling and value. Each site of a world is created
-once, with the same header and a number of its own, from 0. Nothing may be at the
-path FOLDER.
+once, with the same header and NAME and a number of its own, from 0. Nothing may be
+at the path FOLDER.
+
+Give each world a NAME that no other has, of 1 to 64 of a-z A-Z 0-9 . _ -, as a
+concert's. Worlds of one header without it are one world to carriers, and rights of
+the one would be spent in the other.
 
 Example of FILE:
   {\"sites\":2,\"fields\":[{\"name\":\"stock\",\"floor\":0,\"ceiling\":100,\"value\":40}]}";
@@ -99,7 +103,7 @@ with status 3:
 
 Example:
   escrow_site settle shop0 shop1 > world2.json
-  escrow_site create new0 --schema world2.json --site 0";
+  escrow_site create new0 --schema world2.json --site 0 --name shops-2027";
 
 const WEAVE_ABOUT: &str = "Writes one trace of all sites of a world, for `escrow audit`";
 
@@ -150,13 +154,22 @@ fn site_arg<'a>(alloc: Global) -> Arg<'a> {
         .value_parser(ValueParser::unsigned(0, u64::MAX))
 }
 
+fn name_arg<'a>(alloc: Global) -> Arg<'a> {
+    Arg::new(alloc, "name")
+        .long("name")
+        .value_name("NAME")
+        .help("The name of the world, which no other world has")
+        .action(ArgAction::Set)
+}
+
 fn create_command<'a>(alloc: Global) -> Result<Command<'a>, AllocError> {
     Command::new(alloc, "create")
         .about(CREATE_ABOUT)
         .after_help(CREATE_EXAMPLE)
         .arg(folder_arg(alloc))?
         .arg(schema_arg(alloc))?
-        .arg(site_arg(alloc))
+        .arg(site_arg(alloc))?
+        .arg(name_arg(alloc))
 }
 
 fn trace_arg<'a>(alloc: Global) -> Arg<'a> {
@@ -277,11 +290,20 @@ fn not_before(asked: &ArgMatches<'_>) -> Option<Stand> {
     }
 }
 
+// The name of a world, where one is given.
+fn name_of(alloc: Global, asked: &ArgMatches<'_>) -> Result<Option<String>, AllocError> {
+    match asked.get_str("name") {
+        Some(name) => Ok(Some(String::from_str(alloc, name)?)),
+        None => Ok(None),
+    }
+}
+
 fn create_task(alloc: Global, asked: &ArgMatches<'_>) -> Result<Task, AllocError> {
     Ok(Task::Create {
         folder: text_of(alloc, asked, "FOLDER")?,
         schema: text_of(alloc, asked, "schema")?,
         site: asked.get_one::<u64>("site").unwrap_or(0),
+        name: name_of(alloc, asked)?,
     })
 }
 

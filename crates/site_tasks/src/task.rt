@@ -16,11 +16,13 @@ pub struct Serving {
 /// What the command line asks for.
 #[derive(Drop)]
 pub enum Task {
-    /// To make the folder of the site of this number, by the schema in a file.
+    /// To make the folder of the site of this number, by the schema in a file, in a world that has this
+    /// name of its own, or none.
     Create {
         folder: String,
         schema: String,
         site: u64,
+        name: Option<String>,
     },
     /// To serve the site of a folder.
     Serve {
