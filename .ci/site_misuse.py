@@ -9,7 +9,7 @@ import shutil
 import subprocess
 
 from gate_programs import Fault
-from site_model import World
+from site_model import World, settled
 from site_program import ALONE, COMMIT, FIRST, SHOP, SOLD, Program, Site, files_of
 
 def header(field: str = "", sites: str = "2") -> str:
@@ -154,6 +154,42 @@ def tell_worlds_apart(program: Program) -> None:
     os.replace(f"{named['rehearsal']}/log", f"{named['real']}/log")
     told = f"{named['real']}/log: isn't the log of this site: put its own newest log back"
     program.ends(["serve", named["real"]], 3, "", told)
+
+
+ENDED = "was settled: serve the sites of the world that goes on from there, and this folder never again"
+
+
+def end_worlds(program: Program) -> None:
+    """`settle` closes the world that it ends, where its header was taken: not while a site is served, and not dry."""
+    sites = [program.created(f"ended{number}", SHOP, number, True) for number in range(2)]
+    folders = [it.folder for it in sites]
+    served = ["serve", folders[1], "--trace"]
+    program.ends(["serve", folders[0], "--trace"], 0, FIRST.format(1, 4, 1) + SOLD, "", COMMIT)
+    with subprocess.Popen([program.path, *served], stdin=subprocess.PIPE, stdout=subprocess.PIPE) as running:
+        if running.stdout is None or running.stdout.readline() != b"ready 1 1 4\n":
+            raise Fault(f"{folders[1]}: not served")
+        header = f"{settled([it.log() for it in sites]).header()}\n"
+        program.ends(["settle", *folders], 6, "", f"{folders[1]}/log: in use: another process serves it")
+        program.ends(["settle", "--dry-run", *folders], 0, header, "")
+        running.communicate(timeout=60)
+    with open("/dev/full", "wb") as full:
+        program.ends(["settle", *folders], 1, "", "write fault", stdout=full)
+    program.ends(["settle", folders[0]], 3, "field stock between 0 50\n", LOST.format(1))
+    program.ends(served, 0, FIRST.format(2, 8, 2), "", b"")
+    told = {word: program.run([word, *folders[: 1 if word == "show" else 2]]) for word in ("show", "check", "weave")}
+    program.ends(["settle", *folders], 0, header, "")
+    for site in sites:
+        for how in ([], ["--trace"]):
+            refuses(program, site, ["serve", *how], 3, f"{site.folder}: {ENDED}")
+    for word, before in told.items():
+        if program.run([word, *folders[: 1 if word == "show" else 2]]) != before:
+            raise Fault(f"{word} of a settled world: not as it was")
+    again = "all folders were settled before, and the header was written then: --again writes it once more"
+    program.ends(["settle", *folders], 3, "", again)
+    program.ends(["settle", "--again", *folders], 0, header, "")
+    os.remove(f"{folders[1]}/settled")
+    program.ends(["settle", *folders], 0, header, "")
+    refuses(program, sites[1], ["serve"], 3, f"{folders[1]}: {ENDED}")
 
 
 def refuse_folders(program: Program) -> None:
@@ -444,6 +480,7 @@ MISUSES = (
     refuse_command_lines,
     refuse_schemas,
     tell_worlds_apart,
+    end_worlds,
     refuse_folders,
     refuse_logs,
     refuse_exchanged,

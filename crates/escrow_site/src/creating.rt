@@ -80,8 +80,8 @@ fn write_new(rt: &HostRuntime, path: &str, text: &[u8]) -> io::Result<()> {
     file.sync_all()
 }
 
-// Writes a file of the folder.
-fn write_file(rt: &HostRuntime, path: &str, text: &[u8]) -> Result<(), Fault> {
+/// Writes a file of the folder, which isn't there, and makes it safe from a stop of the machine.
+pub(crate) fn write_file(rt: &HostRuntime, path: &str, text: &[u8]) -> Result<(), Fault> {
     match write_new(rt, path, text) {
         Ok(()) => Ok(()),
         Err(error) => Err(failed(rt.alloc(), path, error)),
@@ -105,8 +105,8 @@ fn parent_of(path: &str) -> &str {
     }
 }
 
-// Makes the names in a folder safe from a stop of the machine.
-fn sync_folder(rt: &HostRuntime, folder: &str) -> Result<(), Fault> {
+/// Makes the names in a folder safe from a stop of the machine.
+pub(crate) fn sync_folder(rt: &HostRuntime, folder: &str) -> Result<(), Fault> {
     let synced = match File::open(rt, folder) {
         Ok(opened) => opened.sync_all(),
         Err(error) => Err(error),

@@ -30,6 +30,8 @@ pub(crate) enum Why {
     HeaderChanged,
     #[error("its header has no such site: put it back from a copy, as create wrote it")]
     OtherNumber,
+    #[error("was settled: serve the sites of the world that goes on from there, and this folder never again")]
+    Settled,
     #[error("isn't there: put the newest log back; a site without it would sell again what it sold")]
     NoLog,
     #[error("isn't the log of this site: put its own newest log back")]
@@ -105,6 +107,8 @@ pub(crate) enum Fault {
     Stuck(u16, u64),
     #[error("the header that was written isn't read back")]
     NotReadBack,
+    #[error("all folders were settled before, and the header was written then: --again writes it once more")]
+    AllSettled,
     #[error("out of memory")]
     NoMemory,
 }
@@ -131,7 +135,8 @@ impl Fault {
             | Fault::LogsLost(_)
             | Fault::TooMuch(_)
             | Fault::Stuck(..)
-            | Fault::NotReadBack => 3,
+            | Fault::NotReadBack
+            | Fault::AllSettled => 3,
             Fault::NoMemory => 4,
             Fault::System(..) | Fault::Device(_) | Fault::DeviceCall(..) => 5,
             Fault::Busy(_) => 6,

@@ -22,6 +22,8 @@ pub(crate) struct Paths {
     pub trace: String,
     /// Where a trace is written before it is there.
     pub new_trace: String,
+    /// A file that is there once the world of the site was settled.
+    pub settled: String,
 }
 
 // The path of a file in a folder.
@@ -40,6 +42,7 @@ impl Paths {
             site: path_in(alloc, folder, "site")?,
             trace: path_in(alloc, folder, "trace")?,
             new_trace: path_in(alloc, folder, "trace.new")?,
+            settled: path_in(alloc, folder, "settled")?,
         })
     }
 }
@@ -154,5 +157,13 @@ pub(crate) fn lock_log(rt: &HostRuntime, paths: &Paths) -> Result<HostFile, Faul
     match open_log(rt, paths.log.as_str(), Opening::Existing) {
         Ok(log) => Ok(log),
         Err(fault) => Err(file_fault(rt.alloc(), paths.log.as_str(), fault, Why::NoLog)),
+    }
+}
+
+/// Whether the world of the folder's site was settled, so that the site is never served again.
+pub(crate) fn is_settled(rt: &HostRuntime, paths: &Paths) -> Result<bool, Fault> {
+    match fs::exists(rt, paths.settled.as_str()) {
+        Ok(is_there) => Ok(is_there),
+        Err(error) => Err(failed(rt.alloc(), paths.settled.as_str(), error)),
     }
 }

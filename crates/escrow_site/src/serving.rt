@@ -1,7 +1,7 @@
 //! The command `serve`.
 
 use crate::fault::{Fault, Why, device_fault, refused, with_call};
-use crate::folder::{Paths, behind_name, lock_log, read_file, read_site};
+use crate::folder::{Paths, behind_name, is_settled, lock_log, read_file, read_site};
 use crate::tracing::trace_for;
 use crate::unsynced::{TellsFault, UnsyncedFile};
 use file_medium::{FileFault, HostFile, LogFile};
@@ -218,6 +218,15 @@ fn trace_beside(
     trace_for(rt, paths, identity, how.is_traced)
 }
 
+// Refuses the folder of a site whose world was settled: another world has its rights. The log is locked,
+// so none is settled meanwhile.
+fn refuse_settled(rt: &HostRuntime, paths: &Paths) -> Result<(), Fault> {
+    if is_settled(rt, paths)? {
+        return Err(refused(rt.alloc(), paths.folder.as_str(), Why::Settled));
+    }
+    Ok(())
+}
+
 // Serves the site over its log and its trace.
 fn serve_site(
     rt: &HostRuntime,
@@ -226,6 +235,7 @@ fn serve_site(
     how: Serving,
 ) -> Result<(), Fault> {
     let file = lock_log(rt, paths)?;
+    refuse_settled(rt, paths)?;
     let trace = trace_beside(rt, paths, identity, how)?;
     if how.is_synced {
         serve_files(rt, paths, identity, file, trace)

@@ -5,10 +5,14 @@ ghost use Rattle.world_logs.specs.LostBody.{StandsIfKnown, AreForKnownLogs};
 ghost use Rattle.world_logs.specs.Outcomes.{IsOutcome, AreOutcomes};
 
 use crate::checking::{logs_fault, read_outcome, read_standings};
+use crate::creating::{sync_folder, write_file};
 use crate::fault::{Fault, failed};
-use crate::worlds::{World, read_world};
+use crate::folder::{is_settled, lock_log};
+use crate::worlds::{SiteFolder, World, read_world};
 use field_bounds::{FieldNo, Schema, SiteNo};
+use file_medium::HostFile;
 use log_replay::Standing;
+use site_tasks::Settling;
 use std::alloc::{AllocError, Global};
 use std::{fs, io};
 use world_logs::{
@@ -149,13 +153,70 @@ fn bound_logs(rt: &HostRuntime, world: &World, lost: &[SiteNo]) -> Result<(), Fa
     }
 }
 
-/// Writes the header of a new world that goes on where the logs of all sites of a world end, or,
-/// where logs are lost, between which values each field lies. They are read without their locks.
-pub(crate) fn settle(rt: &HostRuntime, folders: &[String]) -> Result<(), Fault> {
+// What stands in the file of a folder that was closed, for people: that it is there is what counts.
+const SETTLED: &[u8] = b"escrow settled 1\n";
+
+// The logs of all sites, locked as long as these live: so none is served meanwhile, nor was when they
+// were locked.
+fn lock_logs(rt: &HostRuntime, world: &World) -> Result<Vec<HostFile>, Fault> {
+    let mut locked = Vec::new(rt.alloc());
+    for number in 0..world.schema.sites() {
+        let folder = world.named_folder(SiteNo(number))?;
+        locked.push(lock_log(rt, &folder.paths)?)?;
+    }
+    Ok(locked)
+}
+
+// Whether all folders were closed before.
+fn are_settled(rt: &HostRuntime, world: &World) -> Result<bool, Fault> {
+    for number in 0..world.schema.sites() {
+        let folder = world.named_folder(SiteNo(number))?;
+        if !is_settled(rt, &folder.paths)? {
+            return Ok(false);
+        }
+    }
+    Ok(true)
+}
+
+// Closes the folder of a site, unless it was before.
+fn close_folder(rt: &HostRuntime, folder: &SiteFolder) -> Result<(), Fault> {
+    if is_settled(rt, &folder.paths)? {
+        return Ok(());
+    }
+    write_file(rt, folder.paths.settled.as_str(), SETTLED)?;
+    sync_folder(rt, folder.paths.folder.as_str())
+}
+
+// Closes the folders of all sites.
+fn close_folders(rt: &HostRuntime, world: &World) -> Result<(), Fault> {
+    for number in 0..world.schema.sites() {
+        close_folder(rt, world.named_folder(SiteNo(number))?)?;
+    }
+    Ok(())
+}
+
+// Settles a world no log of which is lost: where its header was written, its folders are closed, so that
+// nothing of it is sold once more.
+fn end_world(rt: &HostRuntime, world: &World, how: Settling) -> Result<(), Fault> {
+    if how.is_dry {
+        return settle_logs(rt, world);
+    }
+    let _locked = lock_logs(rt, world)?;
+    if !how.is_again && are_settled(rt, world)? {
+        return Err(Fault::AllSettled);
+    }
+    settle_logs(rt, world)?;
+    close_folders(rt, world)
+}
+
+/// Writes the header of a new world that goes on where the logs of all sites of a world end, and closes
+/// their folders, whose logs it locks; or, where logs are lost, writes between which values each field
+/// lies, and closes none.
+pub(crate) fn settle(rt: &HostRuntime, folders: &[String], how: Settling) -> Result<(), Fault> {
     let world = read_world(rt, folders)?;
     let lost = lost_sites(rt, &world)?;
     if lost.is_empty() {
-        settle_logs(rt, &world)
+        end_world(rt, &world, how)
     } else {
         bound_logs(rt, &world, lost.as_slice())
     }

@@ -1,6 +1,6 @@
 //! The words of the command line.
 
-use crate::task::{Serving, Task};
+use crate::task::{Serving, Settling, Task};
 use clap::builder::ValueParser;
 use clap::error::ErrorKind;
 use clap::{Arg, ArgAction, ArgMatches, Command, Error};
@@ -88,16 +88,18 @@ site that gave. Else no right was made or lost, and each field has one value:
 Example:
   escrow_site check shop0 shop1";
 
-const SETTLE_ABOUT: &str = "Writes the header of a new world that goes on where the logs end";
+const SETTLE_ABOUT: &str = "Ends a world, and writes the header of one that goes on from there";
 
 const SETTLE_EXAMPLE: &str = "\
-The folders are as for `check`, which is done first. Each field of the new world has
-its committed value, and its bounds as they were tightened; what was in flight is
-the new sites'. Use nothing of the old world with the new one.
+The folders are the sites' own, no copies, of stopped sites. They are checked as by
+`check`. Each field of the new world has its committed value, and its bounds as they
+were tightened; what was in flight is the new sites'. Then each folder is closed, by
+a file `settled` in it: no site of it is ever served again, so that nothing is sold
+twice. Until it has ended with status 0 the header isn't to be used: settle again.
 
-Where logs are lost, a folder that isn't named or has no log, it writes no header.
-It writes, for each field, between which values it lies by the other logs, and ends
-with status 3:
+Where logs are lost, a folder that isn't named or has no log, it writes no header,
+and closes nothing. It writes, for each field, between which values it lies by the
+other logs, and ends with status 3:
 
   field FIELD between LO HI
 
@@ -219,11 +221,27 @@ fn check_command<'a>(alloc: Global) -> Result<Command<'a>, AllocError> {
         .arg(folders_arg(alloc))
 }
 
+fn dry_run_arg<'a>(alloc: Global) -> Arg<'a> {
+    Arg::new(alloc, "dry-run")
+        .long("dry-run")
+        .help("Writes the header alone: takes no lock, and closes nothing")
+        .action(ArgAction::SetTrue)
+}
+
+fn again_arg<'a>(alloc: Global) -> Arg<'a> {
+    Arg::new(alloc, "again")
+        .long("again")
+        .help("Writes the header once more of a world that was settled")
+        .action(ArgAction::SetTrue)
+}
+
 fn settle_command<'a>(alloc: Global) -> Result<Command<'a>, AllocError> {
     Command::new(alloc, "settle")
         .about(SETTLE_ABOUT)
         .after_help(SETTLE_EXAMPLE)
-        .arg(folders_arg(alloc))
+        .arg(folders_arg(alloc))?
+        .arg(dry_run_arg(alloc))?
+        .arg(again_arg(alloc))
 }
 
 fn weave_command<'a>(alloc: Global) -> Result<Command<'a>, AllocError> {
@@ -333,6 +351,10 @@ fn check_task(alloc: Global, asked: &ArgMatches<'_>) -> Result<Task, AllocError>
 fn settle_task(alloc: Global, asked: &ArgMatches<'_>) -> Result<Task, AllocError> {
     Ok(Task::Settle {
         folders: texts_of(alloc, asked, "FOLDER")?,
+        how: Settling {
+            is_dry: asked.get_flag("dry-run"),
+            is_again: asked.get_flag("again"),
+        },
     })
 }
 

@@ -5,4 +5,4 @@ mod command_line;
 mod task;
 
 pub use command_line::read_task;
-pub use task::{Serving, Task};
+pub use task::{Serving, Settling, Task};

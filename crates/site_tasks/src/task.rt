@@ -13,6 +13,15 @@ pub struct Serving {
     pub not_before: Option<Stand>,
 }
 
+/// How a world is settled.
+#[derive(Clone, Copy, Debug, Drop, PartialEq, Eq)]
+pub struct Settling {
+    /// Whether the header is told alone, and no folder is closed.
+    pub is_dry: bool,
+    /// Whether the header of a world whose folders are all closed is told again.
+    pub is_again: bool,
+}
+
 /// What the command line asks for.
 #[derive(Drop)]
 pub enum Task {
@@ -37,9 +46,10 @@ pub enum Task {
     Check {
         folders: Vec<String>,
     },
-    /// To write the header of a world that goes on where the logs end.
+    /// To write the header of a world that goes on where the logs end, and to close the folders.
     Settle {
         folders: Vec<String>,
+        how: Settling,
     },
     /// To write one trace of all sites of a world.
     Weave {
