@@ -175,7 +175,7 @@ def end_worlds(program: Program) -> None:
     with open("/dev/full", "wb") as full:
         program.ends(["settle", *folders], 1, "", "write fault", stdout=full)
     program.ends(["settle", folders[0]], 3, "field stock between 0 50\n", LOST.format(1))
-    program.ends(served, 0, FIRST.format(2, 8, 2), "", b"")
+    program.ends(served, 0, "ready 1 2 8\n1 restart -> restarted 2 nothing\n", "", b"")
     told = {word: program.run([word, *folders[: 1 if word == "show" else 2]]) for word in ("show", "check", "weave")}
     program.ends(["settle", *folders], 0, header, "")
     for site in sites:
@@ -425,6 +425,8 @@ def refuse_each_three(program: Program) -> None:
                 program.ends([word, *folders], 3, "", told)
                 continue
             status, _, err = program.run([word, *folders])
+            for folder in folders if (word, status) == ("settle", 0) else ():
+                os.remove(f"{folder}/settled")
             is_lost = any(kind.records is None for kind in kinds)
             is_more = any(kind is ACCEPTS and kinds[(at + 1) % 3].records is not None for at, kind in enumerate(kinds))
             if status != (3 if is_lost or is_more else 0) or is_more != ("which gave 0" in err):
