@@ -15,7 +15,7 @@ from typing import IO, NamedTuple, Optional
 from .errors import Down, Faulty
 from .pipeline import Pipeline, Watch
 from .records import served_between
-from .room import has_room
+from .room import has_room, lacks_room
 from .schema import Identity
 from .values import Mark
 
@@ -148,8 +148,12 @@ class Supervisor:
         return None
 
     def _is_full(self) -> bool:
-        """Whether it has ended for want of room on the disk: then its error tells so."""
-        if self.last_status != DISK or has_room(self._orders.folder):
+        """Whether it has ended for want of room on the disk: then its error tells so. The program tells which call failed,
+        and why; where it doesn't, the disk is looked at."""
+        if self.last_status != DISK:
+            return False
+        is_full = lacks_room(self.last_error)
+        if not (is_full if is_full is not None else not has_room(self._orders.folder)):
             return False
         self.last_error += FULL
         return True

@@ -15,7 +15,7 @@ from programs import LARGE, SiteTest, commits, escrow_site, wait_until
 import escrow
 from escrow import Outcome, Share
 from escrow.metrics import Metrics, text_of
-from escrow.room import has_room
+from escrow.room import has_room, lacks_room
 
 FULL = "the disk is full: make room on it: the site starts again by itself"
 PIECE = bytes(4096)
@@ -203,6 +203,15 @@ class RoomTest(DiskTest):
 
     def test_what_cannot_be_looked_at_is_not_full(self) -> None:
         self.assertTrue(has_room(os.path.join(self.disk, "nothing")))
+
+    def test_what_the_program_told_decides(self) -> None:
+        told = "escrow_site: shop/log: device fault: {}: nothing more is answered: what to do"
+        for why, is_full in (("write: No space left on device (os error 28)", True),
+                             ("write: Disk quota exceeded (os error 122)", True),
+                             ("write: Input/output error (os error 5)", False),
+                             ("sync: No space left on device (os error 28)", False)):  # fmt: skip
+            self.assertIs(lacks_room(told.format(why)), is_full, why)
+        self.assertIsNone(lacks_room("escrow_site: shop/log: device fault: nothing more is answered"))
 
     def test_a_fault_with_room_is_final(self) -> None:
         """As a sync that fails: it isn't started again, and no calls wait for it."""
