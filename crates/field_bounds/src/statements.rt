@@ -59,13 +59,13 @@ pub fn statement_of(entry: &Entry) -> Option<Statement>
 /// Whether an answer to the command may issue a statement: where not, none does, whatever the reply.
 /// Costs no memory.
 #[inline(always)]
-pub fn may_issue(command: Command) -> bool
-    ensures value { result ≡ may_issue command }
+pub fn may_issue(command: &Command) -> bool
+    ensures value { result ≡ may_issue command.now }
     ensures none { result ≡ false → (from : SiteNo) (reply : Reply) →
-        told_by from command reply ≡ None }
+        told_by from command.now reply ≡ None }
 {
     matches!(
-        command,
+        *command,
         Command::Give { .. } | Command::Restate { .. } | Command::Spare { .. }
     )
 }

@@ -40,7 +40,7 @@ pub(crate) fn reserve_for(told: &mut Vec<Statement>, command: Command) -> Result
         → vec_len told.new < vec_capacity told.new) }
     ensures same { told.new.items ≡ told.old.items }
 {
-    if may_issue(command) {
+    if may_issue(&command) {
         return told.reserve(1);
     }
     Ok(())
@@ -67,7 +67,7 @@ pub(crate) fn note_reply(told: &mut Vec<Statement>, site: SiteNo, command: Comma
         ≡ with_statement (statement_of (record { site = site; command = command; reply = reply }))
         (reverse told.old.items) }
 {
-    if may_issue(command) {
+    if may_issue(&command) {
         note(told, &entry_of(site, command, reply));
     }
 }
