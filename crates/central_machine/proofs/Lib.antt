@@ -14,8 +14,6 @@ pub mod Doubts
 pub mod Sites
 pub mod Steps
 pub mod Rows_told
-pub mod Parallel
-pub mod Places
 pub mod Found
 pub mod Sums_put
 pub mod Moves
@@ -25,6 +23,5 @@ pub mod Sums_step
 pub mod Room
 pub mod Totals_more
 pub mod Told_first
-pub mod Gathered
 pub mod Apart
 pub mod Fed

@@ -1,8 +1,7 @@
--- What all parts of the work find, joined, tells the verdict.
+-- What both parts of the work find, joined, tells the verdict.
 use Rattle.std.proofs.Common.{◌≡◌, ℕ, zero, suc, ◌+◌, ◌*◌, ◌<◌, ◌≤◌, Bool, true, false, cond, ◌&&◌, ◌||◌, List, [], ◌∷◌, length, reverse, take_all, refl, sym, ◌∙◌, ap, subst, inl, inr, arith, eqb, ltb, Some, None, Option}
-use Rattle.std.specs.Prelude.{slice_get, slice_index_or, ◌⊎◌}
-use Rattle.std.specs.List.{Contains}
-use Rattle.std.proofs.lemmas.Bool.{cases_eq, or_cases, and_parts, and_cases, eqb-true, eqb-false, ltb-true, ltb-false, eq-eqb}
+use Rattle.std.specs.Prelude.{slice_get, ◌⊎◌}
+use Rattle.std.proofs.lemmas.Bool.{cases_eq, or_cases, and_parts, and_cases, eqb-true, eqb-false, ltb-true, ltb-false}
 use Rattle.std.proofs.lemmas.Option.{get_or_from_slice_get, slice_get_cases}
 use Rattle.field_bounds.specs.declared.entry.Entry.{Entry}
 use Rattle.field_bounds.specs.Schema.{SchemaValue}
@@ -12,10 +11,10 @@ use Rattle.central_rules.specs.declared.verdict.Verdict.TheVariants.{Legal, Ille
 use Rattle.central_rules.specs.Verdict.{broken_rule, first_broken, rules, verdict_back, verdict_of, test_of}
 use Rattle.central_rules.proofs.Verdicts.{none_broken, stop_here}
 use Rattle.central_machine.specs.declared.part.Part.{Part}
-use Rattle.central_machine.specs.declared.part.Part.TheVariants.{Statements, AtSite, OnFields}
+use Rattle.central_machine.specs.declared.part.Part.TheVariants.{Statements, OnTotals}
 use Rattle.central_machine.specs.declared.part.Fault.{Fault}
-use Rattle.central_machine.specs.Parts.{front_of, field_tests, part_rule, IsBefore, IsFault, HasFault, AreFaults, rank, is_before, earlier, earliest}
-use Rattle.central_machine.proofs.Places.{some_is, front_next}
+use Rattle.central_machine.specs.Parts.{front_of, totals_tests, part_rule, IsBefore, IsFault, rank, is_before, earlier}
+use Rattle.central_machine.proofs.Found.{some_is, front_next}
 use Rattle.central_machine.proofs.Totals_more.{legal_next}
 
 -- ---- the order of faults
@@ -86,23 +85,6 @@ earlier_leads (Some p) (Some q) = at (is_before q p) refl
     at true e = (let less = less_key q p e in omega (arith, less), omega arith)
     at false e = (omega arith, most_key q p e)
 
-leads_best : (best : Option Fault) (ys : List (Option Fault)) → NoLater (earliest best ys) best
-leads_best best [] = no_later best
-leads_best best (y ∷ ys) =
-    still_no_later (earliest (earlier y best) ys) (earlier y best) best (leads_best (earlier y best) ys) (earlier_leads y best).1
-
-leads_at : (best : Option Fault) (ys : List (Option Fault)) (k : ℕ) (x : Option Fault) → k < length ys → slice_index_or ys k x ≡ x
-    → NoLater (earliest best ys) x
-leads_at best [] k x below is = absurd (omega (arith, below))
-leads_at best (y ∷ ys) zero x below is =
-    subst (λ (z : Option Fault). NoLater (earliest (earlier y best) ys) z) is
-    (still_no_later (earliest (earlier y best) ys) (earlier y best) y (leads_best (earlier y best) ys) (earlier_leads y best).0)
-leads_at best (y ∷ ys) (suc k) x below is = leads_at (earlier y best) ys k x (omega (arith, below)) is
-
--- the earliest isn't later than any of them
-leads_all : (ys : List (Option Fault)) (x : Option Fault) → Contains ys x → NoLater (earliest None ys) x
-leads_all ys x has = leads_at None ys has.0 x has.1 has.2
-
 one_of : (a b : Option Fault) (f : Fault) → earlier a b ≡ Some f → (a ≡ Some f) ⊎ (b ≡ Some f)
 one_of None b f e = inr e
 one_of (Some p) None f e = inl e
@@ -111,15 +93,6 @@ one_of (Some p) (Some q) f e = pick (is_before q p) e
     pick : (b : Bool) → cond b (Some q) (Some p) ≡ Some f → (Some p ≡ Some f) ⊎ (Some q ≡ Some f)
     pick true e = inr e
     pick false e = inl e
-
--- and it is one of them
-is_one : (best : Option Fault) (ys : List (Option Fault)) (f : Fault) → earliest best ys ≡ Some f → (best ≡ Some f) ⊎ Contains ys (Some f)
-is_one best [] f e = inl e
-is_one best (y ∷ ys) f e =
-    elim (is_one (earlier y best) ys f e) [
-      | inl here ↦ elim (one_of y best f here) [ inl this ↦ inr (0, omega arith, this) | inr old ↦ inl old ]
-      | inr there ↦ inr (suc there.0, let l = there.1 in omega (arith, l), there.2)
-    ]
 
 before_too : (i : ℕ) (a b : Option Fault) → IsBefore i a → NoLater a b → IsBefore i b
 before_too i None None h k = tt
@@ -180,43 +153,29 @@ module _ (schema : SchemaValue) (t : List Entry) (e : Entry) where
   -- a rule that a part names is broken
   fails : (part : Part) (r : Rule) → part_rule schema t e part ≡ Some r → test_of schema t e r ≡ false
   fails Statements r h = fails_in (test_of schema t e) told_tests ((λ x. x), ((λ x. x), tt)) r h
-  fails (AtSite s) r h = at (eqb e.site.0 s) h
+  fails OnTotals r h = at (ltb e.site.0 schema.sites) h
     where
-      at : (b : Bool) → cond b (first_broken ((test_of schema t e Owed, Owed) ∷ [])) None ≡ Some r → test_of schema t e r ≡ false
-      at true h = fails_in (test_of schema t e) ((test_of schema t e Owed, Owed) ∷ []) ((λ x. x), tt) r h
-      at false h = cc
-  fails OnFields r h = at (ltb e.site.0 schema.sites) h
-    where
-      at : (b : Bool) → cond b (first_broken (field_tests schema t e)) None ≡ Some r → test_of schema t e r ≡ false
-      at true h = fails_in (test_of schema t e) (field_tests schema t e) ((λ x. x), ((λ x. x), ((λ x. x), tt))) r h
+      at : (b : Bool) → cond b (first_broken (totals_tests schema t e)) None ≡ Some r → test_of schema t e r ≡ false
+      at true h = fails_in (test_of schema t e) (totals_tests schema t e) ((λ x. x), ((λ x. x), ((λ x. x), ((λ x. x), tt)))) r h
       at false h = cc
 
-  module _ (n : ℕ) (statements : Clear n (part_rule schema t e Statements))
-      (sites : (s : ℕ) → s < schema.sites → Clear n (part_rule schema t e (AtSite s)))
-      (fields : Clear n (part_rule schema t e OnFields)) where
+  module _ (n : ℕ) (statements : Clear n (part_rule schema t e Statements)) (totals : Clear n (part_rule schema t e OnTotals)) where
     first_two : HoldBelow n told_tests
     first_two = hold_below n 0 told_tests (omega arith, (omega arith, tt)) statements
 
-    owed_holds : 5 < n → test_of schema t e Owed ≡ true
-    owed_holds less =
-        let inside = ltb-true e.site.0 schema.sites (first_two.0 (omega (arith, less))) in
-        let mine = subst (λ (b : Bool). Clear n (cond b (first_broken ((test_of schema t e Owed, Owed) ∷ [])) None))
-        (eq-eqb e.site.0 e.site.0 refl) (sites e.site.0 inside) in
-        (hold_below n 0 ((test_of schema t e Owed, Owed) ∷ []) (omega arith, tt) mine).0 less
-
-    fields_hold : 0 < n → HoldBelow n (field_tests schema t e)
-    fields_hold some =
-        hold_below n 1 (field_tests schema t e) (omega arith, (omega arith, (omega arith, tt)))
-        (subst (λ (b : Bool). Clear n (cond b (first_broken (field_tests schema t e)) None)) (first_two.0 some) fields)
+    totals_hold : 0 < n → HoldBelow n (totals_tests schema t e)
+    totals_hold some =
+        hold_below n 1 (totals_tests schema t e) (omega arith, (omega arith, (omega arith, (omega arith, tt))))
+        (subst (λ (b : Bool). Clear n (cond b (first_broken (totals_tests schema t e)) None)) (first_two.0 some) totals)
 
     -- so each rule before the n-th holds
     holds : (r : Rule) → rank r < n → test_of schema t e r ≡ true
     holds Site less = first_two.0 less
-    holds Grant less = (fields_hold (omega (arith, less))).0 less
-    holds Shortage less = (fields_hold (omega (arith, less))).1.0 less
-    holds Interval less = (fields_hold (omega (arith, less))).1.1.0 less
+    holds Grant less = (totals_hold (omega (arith, less))).0 less
+    holds Shortage less = (totals_hold (omega (arith, less))).1.0 less
+    holds Interval less = (totals_hold (omega (arith, less))).1.1.0 less
     holds Told less = first_two.1.0 less
-    holds Owed less = owed_holds less
+    holds Owed less = (totals_hold (omega (arith, less))).1.1.1.0 less
 
   all_hold_none : ((r : Rule) → test_of schema t e r ≡ true) → broken_rule schema t e ≡ None
   all_hold_none h = none_broken (rules schema t e) (h Site, (h Grant, (h Shortage, (h Interval, (h Told, (h Owed, tt))))))
@@ -233,21 +192,23 @@ module _ (schema : SchemaValue) (t : List Entry) (e : Entry) where
 
 -- ---- the verdict
 
-module _ (schema : SchemaValue) (entries : List Entry) (faults : List (Option Fault)) (are : AreFaults schema entries faults) where
-  -- an entry before all faults breaks no rule
-  unbroken : (i : ℕ) (e : Entry) → slice_get entries i ≡ Some e → IsBefore i (earliest None faults)
+module _ (schema : SchemaValue) (entries : List Entry) (told tested : Option Fault) (of_statements : IsFault schema entries Statements told)
+    (of_totals : IsFault schema entries OnTotals tested) where
+  -- an entry before both faults breaks no rule
+  unbroken : (i : ℕ) (e : Entry) → slice_get entries i ≡ Some e → IsBefore i (earlier told tested)
       → verdict_back schema (front_of entries i) ≡ Legal → broken_rule schema (front_of entries i) e ≡ None
   unbroken i e at before legal =
-      all_hold_none schema (front_of entries i) e (λ r. holds schema (front_of entries i) e 6 (clear Statements are.statements)
-      (λ s below. clear (AtSite s) (are.sites s below))
-      (clear OnFields are.fields) r
+      let lead = earlier_leads told tested in
+      all_hold_none schema (front_of entries i) e (λ r. holds schema (front_of entries i) e 6 (clear Statements told of_statements lead.0)
+      (clear OnTotals tested of_totals lead.1) r
       (let small = rank_small r in omega (arith, small)))
     where
-      clear : (part : Part) → HasFault schema entries faults part → Clear 6 (part_rule schema (front_of entries i) e part)
-      clear part has = subst (λ (o : Option Rule). Clear 6 o)
-          (sym (has.2.passed i e at (before_too i (earliest None faults) has.0 before (leads_all faults has.0 has.1)) legal)) tt
+      clear : (part : Part) (y : Option Fault) → IsFault schema entries part y → NoLater (earlier told tested) y
+          → Clear 6 (part_rule schema (front_of entries i) e part)
+      clear part y is leads = subst (λ (o : Option Rule). Clear 6 o)
+          (sym (is.passed i e at (before_too i (earlier told tested) y before leads) legal)) tt
 
-  legal_before : (i : ℕ) → i ≤ length entries → ((j : ℕ) → j < i → IsBefore j (earliest None faults))
+  legal_before : (i : ℕ) → i ≤ length entries → ((j : ℕ) → j < i → IsBefore j (earlier told tested))
       → verdict_back schema (front_of entries i) ≡ Legal
   unfolding verdict_back
   legal_before zero within before = refl
@@ -257,23 +218,23 @@ module _ (schema : SchemaValue) (entries : List Entry) (faults : List (Option Fa
             let legal = legal_before i (omega (arith, within)) (λ j less. before j (omega (arith, less))) in
             let good_one = unbroken i some.0 some.2 (before i (omega arith)) legal in
             let e : suc i ≡ i + 1 = omega arith in
-            rw e (rw (front_next some.0.site.0 entries i some.0 some.2) (legal_next schema some.0 (front_of entries i) legal good_one))
+            rw e (rw (front_next entries i some.0 some.2) (legal_next schema some.0 (front_of entries i) legal good_one))
         | inr past ↦ absurd (let over = past.0 in omega (arith, over, within))
       ]
 
-  -- no part finds a fault
-  pub none_found : earliest None faults ≡ None → Legal ≡ verdict_of schema entries
+  -- neither part finds a fault
+  pub none_found : earlier told tested ≡ None → Legal ≡ verdict_of schema entries
   none_found none =
       let legal = legal_before (length entries) (omega arith) (λ j less. subst (λ (f : Option Fault). IsBefore j f) (sym none) tt) in
       sym legal ∙ ap (λ (xs : List Entry). verdict_back schema (reverse xs)) (take_all (length entries) entries (omega arith))
 
-  module _ (f : Fault) (first : earliest None faults ≡ Some f) where
+  module _ (f : Fault) (first : earlier told tested ≡ Some f) where
     -- a part that found it
     finder : (part : Part) × IsFault schema entries part (Some f)
     finder =
-        elim (is_one None faults f first) [
-          | inl never ↦ cc
-          | inr there ↦ are.found (Some f) there
+        elim (one_of told tested f first) [
+          | inl here ↦ (Statements, subst (λ (x : Option Fault). IsFault schema entries Statements x) here of_statements)
+          | inr here ↦ (OnTotals, subst (λ (x : Option Fault). IsFault schema entries OnTotals x) here of_totals)
         ]
 
     pub inside : f.place < length entries
@@ -300,15 +261,16 @@ module _ (schema : SchemaValue) (entries : List Entry) (faults : List (Option Fa
                 (sym (is.passed f.place e at (omega (arith, h, apart, rank_small g.rule)) legal_there)) tt
           ]
 
-      clear : (part : Part) → HasFault schema entries faults part → Clear (rank f.rule) (part_rule schema (front_of entries f.place) e part)
-      clear part has = clear_in part has.0 has.2 (subst (λ (x : Option Fault). NoLater x has.0) first (leads_all faults has.0 has.1))
+      clear : (part : Part) (y : Option Fault) → IsFault schema entries part y → NoLater (earlier told tested) y
+          → Clear (rank f.rule) (part_rule schema (front_of entries f.place) e part)
+      clear part y is leads = clear_in part y is (subst (λ (x : Option Fault). NoLater x y) first leads)
 
       rule_is : broken_rule schema (front_of entries f.place) e ≡ Some f.rule
       rule_is =
           first_is schema (front_of entries f.place) e f.rule
-          (λ b less. holds schema (front_of entries f.place) e (rank f.rule) (clear Statements are.statements)
-          (λ s below. clear (AtSite s) (are.sites s below))
-          (clear OnFields are.fields) b less)
+          (λ b less. holds schema (front_of entries f.place) e (rank f.rule)
+          (clear Statements told of_statements (earlier_leads told tested).0)
+          (clear OnTotals tested of_totals (earlier_leads told tested).1) b less)
           (fails schema (front_of entries f.place) e finder.0 f.rule (finder.1.failed f e refl at legal_there))
 
       at_entry : Illegal (f.place + 1) f.rule ≡ verdict_of schema entries

@@ -1,7 +1,7 @@
 //! What the parts found, joined: the least place, and there the first rule.
 
-ghost use Rattle.std.specs.Prelude.{◌≡◌, None};
-ghost use Rattle.central_machine.specs.Parts.{rank, is_before, earlier, earliest};
+ghost use Rattle.std.specs.Prelude.{◌≡◌};
+ghost use Rattle.central_machine.specs.Parts.{rank, is_before, earlier};
 
 use crate::part::Fault;
 use central_rules::Rule;
@@ -29,7 +29,7 @@ fn is_before(a: Fault, b: Fault) -> bool
 }
 
 /// The earlier of two faults.
-fn earlier(a: Option<Fault>, b: Option<Fault>) -> Option<Fault>
+pub fn earlier(a: Option<Fault>, b: Option<Fault>) -> Option<Fault>
     ensures { result ≡ earlier a b }
 {
     match (a, b) {
@@ -37,15 +37,4 @@ fn earlier(a: Option<Fault>, b: Option<Fault>) -> Option<Fault>
         (Some(p), None) => Some(p),
         (None, b) => b,
     }
-}
-
-/// The earliest of some faults.
-pub fn earliest(faults: &[Option<Fault>]) -> Option<Fault>
-    ensures { result ≡ earliest None faults.now }
-{
-    let mut best = None;
-    for fault in faults {
-        best = earlier(*fault, best);
-    }
-    best
 }

@@ -6,7 +6,6 @@
 #![tactic(auto)]
 
 mod amounts;
-mod field_faults;
 mod field_sums;
 mod field_tests;
 mod front_judge;
@@ -20,11 +19,12 @@ mod owed;
 mod part;
 mod parts;
 mod running;
-mod site_faults;
 mod site_totals;
 mod spread;
+mod statement_faults;
 mod statements;
 mod threads;
+mod total_faults;
 mod totals;
 
 pub use central_rules::{Rule, Verdict, judge_plain, verdict_is_exact};

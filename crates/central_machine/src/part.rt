@@ -2,13 +2,12 @@
 
 use central_rules::Rule;
 
-/// A part of the work: the rules Site and Statement, the rule Reply at one site, or the rules
-/// Grant, Shortage and Interval.
+/// A part of the work: the rules Site and Statement, or the rules that are tested by the running
+/// totals: Grant, Shortage, Interval and Reply.
 #[derive(Clone, Copy)]
 pub enum Part {
     Statements,
-    AtSite(u16),
-    OnFields,
+    OnTotals,
 }
 
 /// A bad entry, by its place, and a rule that it breaks.

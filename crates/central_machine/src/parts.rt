@@ -5,50 +5,51 @@ ghost use Rattle.field_bounds.specs.Central.{IsSound, IsCentral};
 ghost use Rattle.central_rules.specs.declared.verdict.Rule.{Rule};
 ghost use Rattle.central_rules.specs.declared.verdict.Verdict.TheVariants.{Legal, Illegal};
 ghost use Rattle.central_rules.specs.Verdict.{IsFirstBad, verdict_of};
-ghost use Rattle.central_machine.specs.declared.part.Part.TheVariants.{OnFields};
-ghost use Rattle.central_machine.specs.Parts.{AreRestFaults, IsFault, AreFaults};
+ghost use Rattle.central_machine.specs.declared.part.Part.TheVariants.{Statements, OnTotals};
+ghost use Rattle.central_machine.specs.Parts.{IsFault};
 
-use crate::field_faults::fields_fault;
-use crate::joined::earliest;
+use crate::joined::earlier;
 use crate::judging::length_of;
 use crate::part::Fault;
-use crate::site_faults::rest_faults;
+use crate::statement_faults::statements_fault;
 use crate::threads::both;
+use crate::total_faults::totals_fault;
 use central_rules::Verdict;
 use field_bounds::{Entry, Schema};
 use std::alloc::{AllocError, Global};
 use std::thread::Threads;
 
-/// What all parts find first.
+/// What the two parts find first: that of the statements and that of the totals.
 fn faults_of(
-    rt: &(impl Threads + Sync),
+    rt: &impl Threads,
     alloc: Global,
     schema: &Schema,
     entries: &[Entry],
-) -> Result<Vec<Option<Fault>>, AllocError>
-    ensures { IfOk result (λ faults. AreFaults schema.now entries.now faults.items) }
+) -> Result<(Option<Fault>, Option<Fault>), AllocError>
+    ensures statements { IfOk result (λ faults.
+        IsFault schema.now entries.now Statements faults.0) }
+    ensures totals { IfOk result (λ faults. IsFault schema.now entries.now OnTotals faults.1) }
 {
-    let (of_fields, of_rest) = both(
+    let (of_statements, of_totals) = both(
         rt,
         entries.len(),
         || -> Result<Option<Fault>, AllocError>
-            ensures { IfOk result (λ fault. IsFault schema.entry.now entries.entry.now OnFields
+            ensures { IfOk result (λ fault. IsFault schema.entry.now entries.entry.now Statements
                 fault) }
-        { fields_fault(alloc, schema, entries) },
-        || -> Result<Vec<Option<Fault>>, AllocError>
-            ensures { IfOk result (λ faults. AreRestFaults schema.entry.now entries.entry.now
-                faults.items) }
-        { rest_faults(rt, alloc, schema, entries) },
+        { statements_fault(alloc, schema, entries) },
+        || -> Result<Option<Fault>, AllocError>
+            ensures { IfOk result (λ fault. IsFault schema.entry.now entries.entry.now OnTotals
+                fault) }
+        { totals_fault(alloc, schema, entries) },
     );
-    let fault = of_fields?;
-    let mut faults = of_rest?;
-    faults.push(fault)?;
-    Ok(faults)
+    let told = of_statements?;
+    let tested = of_totals?;
+    Ok((told, tested))
 }
 
 /// The verdict on entries, by what the parts find first.
 fn judge_parts(
-    rt: &(impl Threads + Sync),
+    rt: &impl Threads,
     alloc: Global,
     schema: &Schema,
     entries: &[Entry],
@@ -57,8 +58,8 @@ fn judge_parts(
 {
     let _sites = schema.sites();
     let _few = length_of(entries);
-    let faults = faults_of(rt, alloc, schema, entries)?;
-    match earliest(&faults) {
+    let (told, tested) = faults_of(rt, alloc, schema, entries)?;
+    match earlier(told, tested) {
         Some(fault) => {
             Ok(Verdict::Illegal {
                 at: (fault.place + 1) as u64,
@@ -69,20 +70,19 @@ fn judge_parts(
     }
 }
 
-/// The verdict on entries, the oldest first, as `judge` answers it, with the work done by threads.
-/// The rules Grant, Shortage and Interval are one part, over all fields; Site and Statement another;
-/// Reply at each site is one, over that site's own entries, whose places are listed once. No part
-/// leaves out a rule because another holds. The verdict is the least place that a part tells, and of
-/// the rules told there the first in their order.
+/// The verdict on entries, the oldest first, as `judge` answers it, with the work done by two threads.
+/// The rules Site and Statement are one part, by a set of the statements issued; Grant, Shortage,
+/// Interval and Reply the other, by the running totals, which all four need. No part leaves out a rule
+/// because another holds. The verdict is the lesser place of those that the parts tell, and where both
+/// tell one place the rule that comes first in their order.
 ///
 /// It is Legal exactly where the trace is sound and central (`legal`); else `at` is the first bad
 /// entry, and `rule` the first rule that it breaks over the front before it (`illegal`). Over a
 /// sound trace it is Legal (`sound`).
 ///
-/// The error is want of memory. The part of the fields takes time as `judge` does but for the look-ups
-/// of statements and replies, and memory as `judge` does but for the statements. The other parts take
-/// time and memory as `judge` does, and a number for each entry. Over fewer than 50 entries the parts
-/// take turns in the caller's thread.
+/// The error is want of memory. The part of the totals takes time and memory as `judge` does but for
+/// the statements, and that of the statements what `judge` takes for these. Over fewer than 50 entries
+/// the parts take turns in the caller's thread.
 ///
 /// Source: O'Neil 1986 for the central store, this project for the judge and its parts.
 pub fn judge_fields(

@@ -7,7 +7,7 @@ ghost use Rattle.field_bounds.specs.Effects.{fresh};
 ghost use Rattle.central_rules.specs.declared.verdict.Verdict.TheVariants.{Legal};
 ghost use Rattle.central_rules.specs.declared.verdict.Rule.TheVariants.{Reply as Owed};
 ghost use Rattle.central_rules.specs.Verdict.{broken_rule, verdict_back, test_of};
-ghost use Rattle.central_machine.specs.Parts.{field_broken};
+ghost use Rattle.central_machine.specs.Parts.{field_broken, totals_broken};
 ghost use Rattle.central_machine.specs.Running.{IsSite};
 ghost use Rattle.central_machine.specs.Totals.{AreTotals};
 ghost use Rattle.central_rules.specs.Replies.{reply_test};
@@ -107,30 +107,6 @@ impl Totals {
         }
     }
 
-    /// The same for an entry of any kind.
-    fn step_any(&mut self, alloc: Global, schema: &Schema, entry: &Entry) -> Result<(), AllocError>
-        ensures { OnOk result ((t : List Entry) → length t < 230584300921369395 →
-            AreTotals schema.now t self.old → verdict_back schema.now t ≡ Legal →
-            broken_rule schema.now t entry.now ≡ None →
-            AreTotals schema.now (entry.now ∷ t) self.new) }
-    {
-        self.step_by(alloc, schema, entry)
-    }
-
-    /// The same, with the common entries each on a way of its own.
-    pub fn step(&mut self, alloc: Global, schema: &Schema, entry: &Entry) -> Result<(), AllocError>
-        ensures { OnOk result ((t : List Entry) → length t < 230584300921369395 →
-            AreTotals schema.now t self.old → verdict_back schema.now t ≡ Legal →
-            broken_rule schema.now t entry.now ≡ None →
-            AreTotals schema.now (entry.now ∷ t) self.new) }
-    {
-        by_entry! {
-            entry;
-            known => self.step_by(alloc, schema, &known);
-            self.step_any(alloc, schema, entry)
-        }
-    }
-
     /// The first rule on fields that the next entry breaks: of Grant, Shortage and Interval, each by its
     /// own test.
     #[inline(always)]
@@ -151,5 +127,81 @@ impl Totals {
             return Some(Rule::Interval);
         }
         None
+    }
+
+    /// The first rule that the next entry breaks by what the totals tell: one on fields, or Reply.
+    /// Of an entry of no site nothing is told.
+    #[inline(always)]
+    fn totals_broken(&self, schema: &Schema, entry: &Entry) -> Option<Rule>
+        ensures { (t : List Entry) → AreTotals schema.now t self.now →
+            result ≡ totals_broken schema.now t entry.now }
+    {
+        if entry.site.0 >= schema.sites() {
+            return None;
+        }
+        if let Some(rule) = self.field_broken(schema, entry) {
+            return Some(rule);
+        }
+        if !self.reply_holds(schema, entry) {
+            return Some(Rule::Reply);
+        }
+        None
+    }
+
+    /// Tests the next entry by the totals, and takes it in where it breaks no such rule. Inlined
+    /// where the command and the reply are known, so that nothing is left there of the others.
+    #[inline(always)]
+    fn take_by(
+        &mut self,
+        alloc: Global,
+        schema: &Schema,
+        entry: &Entry,
+    ) -> Result<Option<Rule>, AllocError>
+        ensures rule { IfOk result (λ rule. (t : List Entry) → AreTotals schema.now t self.old →
+            rule ≡ totals_broken schema.now t entry.now) }
+        ensures totals { IfOk result (λ rule. (t : List Entry) → length t < 230584300921369395 →
+            AreTotals schema.now t self.old → verdict_back schema.now t ≡ Legal → rule ≡ None →
+            broken_rule schema.now t entry.now ≡ None →
+            AreTotals schema.now (entry.now ∷ t) self.new) }
+    {
+        if let Some(rule) = self.totals_broken(schema, entry) {
+            return Ok(Some(rule));
+        }
+        self.step_by(alloc, schema, entry)?;
+        Ok(None)
+    }
+
+    /// The same for an entry of any kind.
+    fn take_any(
+        &mut self,
+        alloc: Global,
+        schema: &Schema,
+        entry: &Entry,
+    ) -> Result<Option<Rule>, AllocError>
+        ensures rule { IfOk result (λ rule. (t : List Entry) → AreTotals schema.now t self.old →
+            rule ≡ totals_broken schema.now t entry.now) }
+        ensures totals { IfOk result (λ rule. (t : List Entry) → length t < 230584300921369395 →
+            AreTotals schema.now t self.old → verdict_back schema.now t ≡ Legal → rule ≡ None →
+            broken_rule schema.now t entry.now ≡ None →
+            AreTotals schema.now (entry.now ∷ t) self.new) }
+    {
+        self.take_by(alloc, schema, entry)
+    }
+
+    /// The same, with the common entries each on a way of its own.
+    pub fn take_in(
+        &mut self,
+        alloc: Global,
+        schema: &Schema,
+        entry: &Entry,
+    ) -> Result<Option<Rule>, AllocError>
+        ensures rule { IfOk result (λ rule. (t : List Entry) → AreTotals schema.now t self.old →
+            rule ≡ totals_broken schema.now t entry.now) }
+        ensures totals { IfOk result (λ rule. (t : List Entry) → length t < 230584300921369395 →
+            AreTotals schema.now t self.old → verdict_back schema.now t ≡ Legal → rule ≡ None →
+            broken_rule schema.now t entry.now ≡ None →
+            AreTotals schema.now (entry.now ∷ t) self.new) }
+    {
+        by_entry! { entry; known => self.take_by(alloc, schema, &known); self.take_any(alloc, schema, entry) }
     }
 }

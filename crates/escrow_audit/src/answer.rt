@@ -126,7 +126,7 @@ fn bad_entry(alloc: Global, number: u64) -> Result<(AuditEnd, String), AllocErro
     Ok((AuditEnd::BadEntry, bad_entry_line(alloc, number)?))
 }
 
-// Reads the input, judges its entries field by field once all are read, and tells what is answered.
+// Reads the input, judges its entries in parts once all are read, and tells what is answered.
 fn answer_by_fields<R: Source>(
     rt: &(impl Threads + Sync),
     alloc: Global,
@@ -224,9 +224,9 @@ fn answer<R: Source>(
 /// Reader and writer tell the contract how their calls end, and how many failed; `Watched::new`
 /// makes such ones of std's. No call is made again after one that failed.
 ///
-/// With `fields` the entries are kept, and judged once all are read: in parts by threads, of which the
-/// rules on fields are one. Else each is judged as it is read, and none is kept. The answer is the
-/// same.
+/// With `fields` the entries are kept, and judged once all are read: in two parts by threads, by the
+/// statements issued and by running totals. Else each is judged as it is read, and none is kept. The
+/// answer is the same.
 ///
 /// Costs 128 KiB for input, memory for the judge and, with `fields`, for the entries, and time in
 /// proportion to the input. Want of memory for the judge is told only where all lines are good

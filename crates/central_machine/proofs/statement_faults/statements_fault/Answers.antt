@@ -6,7 +6,7 @@ use Rattle.central_machine.specs.declared.part.Part.TheVariants.{Statements}
 use Rattle.statement_set.specs.Issued.{HasIssued}
 use Rattle.central_machine.specs.Parts.{front_of, part_rule}
 use Rattle.central_machine.proofs.Found.{next_passed, no_fault, fault_at}
-use Rattle.central_machine.proofs.site_faults.statements_fault.Goals as goal
+use Rattle.central_machine.proofs.statement_faults.statements_fault.Goals as goal
 
 pub loop-place-preserved : goal.loop-place-preserved
 loop-place-preserved c =

@@ -1,7 +1,7 @@
-//! The part of the fields: what it finds first.
+//! The part of the totals: what it finds first.
 
 ghost use Rattle.std.specs.Prelude.{IfOk};
-ghost use Rattle.central_machine.specs.declared.part.Part.TheVariants.{OnFields};
+ghost use Rattle.central_machine.specs.declared.part.Part.TheVariants.{OnTotals};
 ghost use Rattle.central_machine.specs.Parts.{IsFault};
 
 use crate::judging::length_of;
@@ -10,21 +10,20 @@ use crate::totals::Totals;
 use field_bounds::{Entry, Schema};
 use std::alloc::{AllocError, Global};
 
-/// The first entry that breaks a rule on fields.
-pub fn fields_fault(
+/// The first entry that breaks a rule on fields, or has a reply that its site doesn't owe.
+pub fn totals_fault(
     alloc: Global,
     schema: &Schema,
     entries: &[Entry],
 ) -> Result<Option<Fault>, AllocError>
-    ensures { IfOk result (λ fault. IsFault schema.now entries.now OnFields fault) }
+    ensures { IfOk result (λ fault. IsFault schema.now entries.now OnTotals fault) }
 {
     let _few = length_of(entries);
     let mut totals = Totals::new(alloc, schema)?;
     for (place, entry) in entries.iter().enumerate() {
-        if let Some(rule) = totals.field_broken(schema, entry) {
+        if let Some(rule) = totals.take_in(alloc, schema, entry)? {
             return Ok(Some(Fault { place, rule }));
         }
-        totals.step(alloc, schema, entry)?;
     }
     Ok(None)
 }

@@ -4,7 +4,7 @@ use Rattle.field_bounds.specs.declared.entry.Entry.{Entry}
 use Rattle.central_machine.specs.declared.part.Part.TheVariants.{Statements}
 use Rattle.statement_set.specs.Issued.{HasIssued}
 use Rattle.central_machine.specs.Parts.{front_of, part_rule}
-use Rattle.central_machine.proofs.site_faults.statements_fault.Given as goal
+use Rattle.central_machine.proofs.statement_faults.statements_fault.Given as goal
 
 abbrev pub invariant-loop-place : goal.invariant-loop-place
 invariant-loop-place l = record {
