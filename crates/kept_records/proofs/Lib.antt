@@ -1,5 +1,4 @@
 pub mod Bytes
-pub mod Digits
 pub mod Spaced
 pub mod AtFront
 pub mod OneWord

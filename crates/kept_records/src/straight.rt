@@ -1,9 +1,8 @@
 //! Records of the common kinds, read straight from the bytes that begin with their text.
 
-ghost use Rattle.std.specs.Prelude.{◌≡◌, ◌≢◌, ◌<◌, ◌≤◌, ◌^◌, ◌++◌, ◌∷◌, [], if◌then◌else◌, ℤ, pos, unsigned_abs, length, take, slice_index_or, IfSome};
+ghost use Rattle.std.specs.Prelude.{◌≡◌, ◌≤◌, ◌++◌, ◌∷◌, [], if◌then◌else◌, ℤ, pos, unsigned_abs, IfSome};
 ghost use Rattle.field_bounds.specs.Owed.{max_change};
 ghost use Rattle.std.specs.Fmt.{decimal, signed_decimal};
-ghost use Rattle.std.specs.Str.Parse.{digits_value, AllDigits};
 ghost use Rattle.std.specs.List.{AllByRecursion};
 ghost use Rattle.kept_records.specs.Text.{IsChange, IsEscrow, IsListed, IsListedCut, kind_word, escrow_words, total_words, cut_words, words_spaced};
 ghost use Rattle.kept_records.specs.Lines.{IsCommitAt, IsRestartAt, IsRecordAt};
@@ -15,94 +14,7 @@ use crate::total::{Cut, Total};
 use field_bounds::{
     Escrow, FieldNo, Kind, MAX_CHANGE, MAX_EPOCH, MAX_ESCROWS, MAX_NUMBER, MAX_TOTAL, SiteNo, TxnId,
 };
-
-// A number of more digits isn't read here.
-const LARGE: u64 = 100_000_000_000_000_000;
-
-// So many digits are read by the short way.
-const SHORT: usize = 8;
-
-// The number whose digits the bytes begin with, so many of which were read to this value, up to the
-// first byte that is no digit, and what stands behind them.
-#[inline(always)]
-fn more_digits(bytes: &[u8], so_far: u64, read: usize) -> Option<(u64, &[u8])>
-    requires some { 0 < read }
-    requires within { read ≤ length bytes.now }
-    requires first { slice_index_or bytes.now 0 0 ≢ 48 }
-    requires digits { AllDigits 10 (take read bytes.now) }
-    requires value { so_far ≡ digits_value 10 (take read bytes.now) }
-    requires small { so_far < 10 ^ 18 }
-    ensures spelled { IfSome result (λ read. bytes.now ≡ decimal read.0 ++ read.1.now) }
-    ensures small { IfSome result (λ read. read.0 < 10 ^ 18) }
-{
-    let mut value = so_far;
-    let mut count = read;
-    while count < bytes.len() && bytes[count].is_ascii_digit() {
-        if value >= LARGE {
-            return None;
-        }
-        value = value * 10 + u64::from(bytes[count] - b'0');
-        count += 1;
-    }
-    Some((value, &bytes[count..]))
-}
-
-// The number whose digits the bytes begin with, up to the first byte that is no digit, and what
-// stands behind them. Behind a 0 no more digits are read.
-#[inline(always)]
-fn long_number(bytes: &[u8]) -> Option<(u64, &[u8])>
-    ensures spelled { IfSome result (λ read. bytes.now ≡ decimal read.0 ++ read.1.now) }
-    ensures small { IfSome result (λ read. read.0 < 10 ^ 18) }
-{
-    if bytes.is_empty() || !bytes[0].is_ascii_digit() {
-        return None;
-    }
-    let value = u64::from(bytes[0] - b'0');
-    if value == 0 {
-        return Some((0, &bytes[1..]));
-    }
-    more_digits(bytes, value, 1)
-}
-
-// The same where so many bytes are there. Neither their end nor the number's size has to be looked
-// at behind each of the first digits, whose loop, of a fixed number of turns, is unrolled.
-#[inline(always)]
-fn short_number(bytes: &[u8]) -> Option<(u64, &[u8])>
-    requires room { 8 ≤ length bytes.now }
-    ensures spelled { IfSome result (λ read. bytes.now ≡ decimal read.0 ++ read.1.now) }
-    ensures small { IfSome result (λ read. read.0 < 10 ^ 18) }
-{
-    if !bytes[0].is_ascii_digit() {
-        return None;
-    }
-    let mut value = u64::from(bytes[0] - b'0');
-    let mut count: usize = 1;
-    if value == 0 {
-        return Some((value, &bytes[1..]));
-    }
-    while count < SHORT {
-        if !bytes[count].is_ascii_digit() {
-            return Some((value, &bytes[count..]));
-        }
-        value = value * 10 + u64::from(bytes[count] - b'0');
-        count += 1;
-    }
-    more_digits(bytes, value, SHORT)
-}
-
-// The same, however many bytes are there. Nothing here is a call in the end: what was read stays in
-// registers.
-#[inline(always)]
-fn number_at_front(bytes: &[u8]) -> Option<(u64, &[u8])>
-    ensures spelled { IfSome result (λ read. bytes.now ≡ decimal read.0 ++ read.1.now) }
-    ensures small { IfSome result (λ read. read.0 < 10 ^ 18) }
-{
-    if bytes.len() < SHORT {
-        long_number(bytes)
-    } else {
-        short_number(bytes)
-    }
-}
+use line_words::first_number;
 
 // What stands behind a byte that the bytes begin with.
 #[inline(always)]
@@ -122,7 +34,7 @@ fn number_behind_space(bytes: &[u8], least: u64, most: u64) -> Option<(u64, &[u8
     ensures least { IfSome result (λ read. least ≤ read.0) }
     ensures most { IfSome result (λ read. read.0 ≤ most) }
 {
-    let (value, left) = number_at_front(behind_byte(bytes, b' ')?)?;
+    let (value, left) = first_number(behind_byte(bytes, b' ')?)?;
     if least <= value && value <= most {
         Some((value, left))
     } else {
@@ -164,7 +76,7 @@ fn change_at_front(bytes: &[u8]) -> Option<(i64, &[u8])>
     ensures range { IfSome result (λ read. IsChange read.0) }
 {
     let (below, digits) = sign(bytes);
-    let (size, behind) = number_at_front(digits)?;
+    let (size, behind) = first_number(digits)?;
     if 1 <= size && size <= MAX_CHANGE {
         Some((change_of(below, size), behind))
     } else {

@@ -1,10 +1,12 @@
 -- Fronts of lines: digits, and the word that ends behind them.
-use Rattle.std.proofs.Common.{suc, None, eqb, ltb, append_assoc, ◌≡◌, ℕ, ◌+◌, ◌^◌, ◌<◌, ◌≤◌, Bool, true, false, cond, ◌-◌, List, [], ◌∷◌, ◌++◌, length, get_or, take, drop, Option, Some, refl, sym, ap, subst, ◌∙◌, arith, add-one}
+use Rattle.std.proofs.Common.{rules, suc, None, eqb, ltb, append_assoc, ◌≡◌, ℕ, ◌+◌, ◌^◌, ◌<◌, ◌≤◌, Bool, true, false, cond, ◌-◌, List, [], ◌∷◌, ◌++◌, length, get_or, take, drop, Option, Some, refl, sym, ap, subst, ◌∙◌, arith, add-one}
 use Rattle.std.specs.Prelude.{◌==◌, ℤ, position}
 use Rattle.std.specs.Fmt.{decimal}
 use Rattle.std.specs.Str.Parse.{digits_value, AllDigits}
+use Rattle.std.specs.Char.{is_ascii_digit}
 use Rattle.std.proofs.lemmas.Bool.{ne_eqb, eq-eqb, lt-ltb, cond-true}
 use Rattle.std.proofs.lemmas.Str.Parse.{numerals_by_value, tells_digits, digits_value_short, digit_at}
+use Rattle.std.proofs.lemmas.Int.Digits.{digits_value_more, digits_more}
 use Rattle.std.proofs.lemmas.List.{length-take-le, take-append-drop, take_all, get_or-take, take_more, length-drop, length-append, append-nil, append_cancel_left, get_or_append_left, get_or-append-add}
 use Rattle.std.proofs.lemmas.List.Sums.{position_or_len_is}
 use Rattle.std.proofs.lemmas.Fmt.{decimal_is_IsNumeral, decimal_digit}
@@ -15,7 +17,7 @@ use Rattle.std.specs.List.{onto_first, position_or_len, join_with_byte}
 use Rattle.line_words.specs.Words.{words}
 use Rattle.line_words.specs.Fronts.{IsSpaceFree, from_zero_of, below_zero_of, dotted_of}
 use Rattle.line_words.specs.Reading.{◌>>=◌, number_of, negative_of, positive_of, signed_of, word_at}
-use Rattle.line_words.proofs.Numbers.{number_good, number_takes, number_again}
+use Rattle.line_words.proofs.Numbers.{number_good, number_takes, number_again, digit_is}
 use Rattle.line_words.proofs.SignedNumbers.{plain_word, decimal_first}
 use Rattle.line_words.proofs.Forms.{found}
 use Rattle.line_words.proofs.WordLemmas.{is_space, some_words, join-words, line-append}
@@ -29,6 +31,15 @@ front_small w i within few all =
 pub front_more_small : (w : List ℕ) (i : ℕ) → i < length w → i < 19 → AllDigits 10 (take i w) → digits_value 10 (take i w) < 10 ^ 18
 front_more_small w i within few all =
     digits_value_short (numerals_by_value _ tells_digits) (take i w) 18 all (omega (arith, length-take-le i w (omega arith)))
+
+-- a digit alone
+pub one_digit : (w : List ℕ) → 0 < length w → is_ascii_digit (get_or w 0 0) ≡ true
+    → AllDigits 10 (take 1 w) × (digits_value 10 (take 1 w) ≡ get_or w 0 0 - 48)
+one_digit w some is =
+    let d = digit_is (get_or w 0 0) is in
+    let none : AllDigits 10 (take 0 w) = search rules in
+    let zero : digits_value 10 (take 0 w) ≡ 0 = search rules in
+    (digits_more 10 w 0 some none d.0, omega (arith, digits_value_more 10 w 0 some, zero, d.2))
 
 -- digits are no spaces
 pub digits_space_free : (w : List ℕ) → AllDigits 10 w → IsSpaceFree w
