@@ -2,18 +2,21 @@
 """Measures durable commits a second on one hot field: a site that `escrow_site` serves, beside a plain program that
 appends and syncs, PostgreSQL's hot row, and Redis that syncs each append.
 
-    bench/store.py [SECONDS [TURNS]] [--folder FOLDER]
+    bench/store.py [SECONDS [TURNS]] [--folder FOLDER] [--versions]
 
-SECONDS is how long each row runs in a turn (2 if left out), TURNS how often all rows run, one after another (7), and
-FOLDER where all of them keep their files (a temporary folder): one disk for all. It prints the median of each row with its
-least and greatest, and then ratios: each is the median of the ratios within a turn, since what else a disk does falls on
-all rows of a turn alike. What isn't installed is skipped, by name; `bench/install` installs it.
+SECONDS is how long each row runs in a turn (2 if left out), TURNS how often all rows run, one after another (7), every
+other time in the order turned round, and FOLDER where all of them keep their files (a temporary folder): one disk for all.
+It prints the median of each row with its least and greatest, and then ratios: each is the median of the ratios within a
+turn, since what else a disk does falls on all rows of a turn alike. What isn't installed is skipped, by name;
+`bench/install` installs it. With --versions it runs the rows of a site alone, each over a log of version 2, as `create`
+makes it, and over one of version 1, which has no sums.
 
 The rows:
 
 - `site N deep`: one client has N transactions under way: a begin, an escrow of -1 and a commit, three lines each. A
   transaction counts once its commit was answered, which is behind the sync of its record.
 - `site N deep, --no-sync`: the same without a sync.
+- `.., log 1`: the same over a log of version 1.
 - `raw 1 deep`: a plain program (`bench/plain/raw_log.rs`) that the same client drives: it appends a record of 16 bytes, syncs it
   and answers.
 - `postgres N clients`: an UPDATE of one row, prepared, with the bound as its condition; by pgbench, over a socket.
@@ -26,6 +29,7 @@ unpacks), and `rustc` for the plain one.
 
 import argparse
 import contextlib
+import hashlib
 import os
 import pwd
 import re
@@ -41,6 +45,8 @@ from dataclasses import dataclass
 TOP = os.path.dirname(os.path.dirname(os.path.abspath(__file__)))
 HEADER = '{"sites":1,"fields":[{"name":"stock","floor":0,"ceiling":1000000000000000,"value":500000000000000}]}\n'
 DEPTHS = (1, 8, 64, 1_024)
+UNSYNCED = (64, 1_024)
+COMPARED = (1, 64)
 CLIENTS = (1, 8, 64)
 MOST = 3_000_000
 LOWER = "local v = tonumber(redis.call('GET', KEYS[1])) if v >= 1 then return redis.call('DECRBY', KEYS[1], 1) end return -1"
@@ -100,33 +106,79 @@ def running(words: list[str], **how: object) -> Iterator[subprocess.Popen]:
         child.wait()
 
 
-def site_rows(folder: str) -> Iterator[Row]:
+def site_program() -> str | None:
     places = (os.path.join(TOP, *place, "out", "escrow_site") for place in (("crates", "escrow_site"), ("packed",)))
-    program = next(filter(os.path.exists, places), None)
+    return next(filter(os.path.exists, places), None)
+
+
+def put(path: str, text: str) -> None:
+    with open(path, "w", encoding="ascii") as file:
+        file.write(text)
+
+
+def make_first_version(kept: str) -> None:
+    """The folder of a site as programs made it before logs had sums: no program makes one any more."""
+    owner = f"number 0\nworld {hashlib.sha256(HEADER.rstrip().encode()).hexdigest()}\n"
+    os.mkdir(kept)
+    put(os.path.join(kept, "site"), f"escrow site 1\n{owner}{HEADER}")
+    put(os.path.join(kept, "log"), f"escrow log 1\n{owner}")
+
+
+@dataclass(frozen=True)
+class Served:
+    """How a site is served: how many transactions are under way, whether it is synced, and the version of its log."""
+
+    deep: int
+    is_synced: bool = True
+    version: int = 2
+
+    def name(self) -> str:
+        return f"site {self.deep:,} deep{'' if self.is_synced else ', --no-sync'}{'' if self.version == 2 else ', log 1'}"
+
+
+class Sites:
+    """The program, and the folder of the one site that it serves anew for each row."""
+
+    def __init__(self, program: str, folder: str) -> None:
+        self.program, self.folder = program, folder
+        self.header, self.kept = os.path.join(folder, "header"), os.path.join(folder, "site")
+        put(self.header, HEADER)
+        self.texts: dict[int, Texts] = {}
+
+    def make(self, version: int) -> None:
+        shutil.rmtree(self.kept, ignore_errors=True)
+        if version == 1:
+            make_first_version(self.kept)
+            return
+        words = ["create", self.kept, "--schema", self.header, "--site", "0", "--name", "hot-field"]
+        subprocess.run([self.program, *words], check=True)
+
+    def measure(self, how: Served, seconds: float) -> float:
+        self.make(how.version)
+        words = ["serve", self.kept, *([] if how.is_synced else ["--no-sync"])]
+        with running([self.program, *words], stdin=subprocess.PIPE, stdout=subprocess.PIPE, bufsize=0) as child:
+            epoch = epoch_of(child)
+            if epoch not in self.texts:
+                self.texts[epoch] = Texts(
+                    lambda number: b"0 begin\n0 escrow %d.%d stock -1\n0 commit %d.%d\n" % (epoch, number, epoch, number)
+                )
+            return drive(child, self.texts[epoch], 3, how.deep, seconds)
+
+    def row(self, how: Served) -> Row:
+        return Row(how.name(), lambda seconds: self.measure(how, seconds))
+
+
+def site_rows(folder: str, with_versions: bool) -> Iterator[Row]:
+    program = site_program()
     if program is None:
         print("skipped: escrow_site, which is neither built nor unpacked here")
         return
-    header, kept = os.path.join(folder, "header"), os.path.join(folder, "site")
-    with open(header, "w", encoding="ascii") as file:
-        file.write(HEADER)
-    texts: dict[int, Texts] = {}
-
-    def measure(deep: int, words: list[str], seconds: float) -> float:
-        shutil.rmtree(kept, ignore_errors=True)
-        subprocess.run([program, "create", kept, "--schema", header, "--site", "0"], check=True)
-        pipes = {"stdin": subprocess.PIPE, "stdout": subprocess.PIPE, "bufsize": 0}
-        with running([program, "serve", kept, *words], **pipes) as child:
-            epoch = epoch_of(child)
-            if epoch not in texts:
-                texts[epoch] = Texts(
-                    lambda number: b"0 begin\n0 escrow %d.%d stock -1\n0 commit %d.%d\n" % (epoch, number, epoch, number)
-                )
-            return drive(child, texts[epoch], 3, deep, seconds)
-
-    for deep in DEPTHS:
-        yield Row(f"site {deep:,} deep", lambda seconds, deep=deep: measure(deep, [], seconds))
-    for deep in DEPTHS[-2:]:
-        yield Row(f"site {deep:,} deep, --no-sync", lambda seconds, deep=deep: measure(deep, ["--no-sync"], seconds))
+    sites = Sites(program, folder)
+    if with_versions:
+        each = [Served(deep, is_synced, version) for deep in COMPARED for is_synced in (True, False) for version in (2, 1)]
+    else:
+        each = [*map(Served, DEPTHS), *(Served(deep, False) for deep in UNSYNCED)]
+    yield from map(sites.row, each)
 
 
 def epoch_of(child: subprocess.Popen) -> int:
@@ -245,6 +297,7 @@ def redis_rows(socket: str) -> Iterator[Row]:
 
 
 RATIOS = (
+    *((Served(deep, it).name(), Served(deep, it, 1).name()) for deep in COMPARED for it in (True, False)),
     ("site 1 deep", "raw 1 deep"),
     ("site 1 deep", "postgres 1 clients"),
     ("site 8 deep", "postgres 8 clients"),
@@ -256,15 +309,32 @@ RATIOS = (
 )
 
 
+def server_rows(folder: str, stack: contextlib.ExitStack) -> Iterator[Row]:
+    """The rows of the servers that are installed, which run until the stack is closed."""
+    programs = postgres_programs()
+    if programs is None or shutil.which("pgbench") is None:
+        print("skipped: PostgreSQL, which isn't installed")
+    else:
+        yield from postgres_rows(folder, stack.enter_context(postgres(folder, programs)))
+    if shutil.which("redis-server") is None or shutil.which("redis-benchmark") is None:
+        print("skipped: Redis, which isn't installed")
+    else:
+        yield from redis_rows(stack.enter_context(redis(folder)))
+
+
+def take_turn(rows: list[Row], seconds: float) -> dict[str, float]:
+    return {row.name: row.measure(seconds) for row in rows}
+
+
 def tell(rows: list[Row], turns: list[dict[str, float]]) -> None:
     for row in rows:
         rates = [turn[row.name] for turn in turns]
-        print(f"{row.name:26} {statistics.median(rates):12,.0f} a second  {min(rates):12,.0f} to {max(rates):12,.0f}")
+        print(f"{row.name:32} {statistics.median(rates):12,.0f} a second  {min(rates):12,.0f} to {max(rates):12,.0f}")
     for ours, other in RATIOS:
         if ours in turns[0] and other in turns[0]:
             ratios = [turn[ours] / turn[other] for turn in turns]
             middle, least, most = statistics.median(ratios), min(ratios), max(ratios)
-            print(f"{ours} : {other:26} {middle:8.2f} times  {least:.2f} to {most:.2f}")
+            print(f"{f'{ours} : {other}':58} {middle:8.2f} times  {least:.2f} to {most:.2f}")
 
 
 def main() -> None:
@@ -272,21 +342,15 @@ def main() -> None:
     parser.add_argument("seconds", type=float, nargs="?", default=2.0, help="of each row in a turn")
     parser.add_argument("turns", type=int, nargs="?", default=7, help="of all rows, one after another")
     parser.add_argument("--folder", default=None, help="where all keep their files")
+    parser.add_argument("--versions", action="store_true", help="the versions of logs beside each other, and nothing else")
     given = parser.parse_args()
     with contextlib.ExitStack() as stack:
         folder = stack.enter_context(tempfile.TemporaryDirectory(prefix="store-", dir=given.folder))
         os.chmod(folder, 0o755)
-        rows = [*site_rows(folder), *raw_rows(folder)]
-        programs = postgres_programs()
-        if programs is None or shutil.which("pgbench") is None:
-            print("skipped: PostgreSQL, which isn't installed")
-        else:
-            rows += postgres_rows(folder, stack.enter_context(postgres(folder, programs)))
-        if shutil.which("redis-server") is None or shutil.which("redis-benchmark") is None:
-            print("skipped: Redis, which isn't installed")
-        else:
-            rows += redis_rows(stack.enter_context(redis(folder)))
-        turns = [{row.name: row.measure(given.seconds) for row in rows} for _ in range(given.turns)]
+        rows = [*site_rows(folder, given.versions)]
+        if not given.versions:
+            rows += [*raw_rows(folder), *server_rows(folder, stack)]
+        turns = [take_turn(rows if number % 2 == 0 else rows[::-1], given.seconds) for number in range(given.turns)]
         tell(rows, turns)
 
 
