@@ -21,7 +21,7 @@ import tempfile
 from gate_programs import Children, Fault
 from site_program import Program, files_of
 
-TOP = os.path.dirname(os.path.abspath(__file__))
+KEPT_FOLDERS = os.path.join(os.path.dirname(os.path.abspath(__file__)), "folders")
 
 
 @dataclasses.dataclass(frozen=True)
@@ -32,7 +32,7 @@ class World:
     asked: dict[str, str]
 
     def kept(self) -> str:
-        return os.path.join(TOP, "folders", self.name)
+        return os.path.join(KEPT_FOLDERS, self.name)
 
 
 WORLDS = (

@@ -9,7 +9,7 @@ import shutil
 import subprocess
 
 from gate_programs import Fault
-from site_model import World, settled
+from site_model import END, World, sealed
 from site_program import ALONE, COMMIT, FIRST, SHOP, SOLD, Program, Site, files_of
 
 def header(field: str = "", sites: str = "2") -> str:
@@ -33,11 +33,12 @@ HEADERS = (
 
 
 def site_text(number: str = "0", text: str = SHOP.header(), name: str = "", version: str = "1") -> str:
+    """What `site` holds in a world without a name of its own, as programs made them once."""
     name = name or hashlib.sha256(text.encode()).hexdigest()
     return f"escrow site {version}\nnumber {number}\nworld {name}\n{text}\n"
 
 
-NAME = SHOP.name()
+NAME = hashlib.sha256(SHOP.header().encode()).hexdigest()
 DAMAGED = "isn't as create wrote it: put it back from a copy"
 CHANGED = "the header was changed: put it back from a copy, as create wrote it"
 SITES = (
@@ -58,25 +59,52 @@ SITES = (
 )
 
 # Logs that begin otherwise than one of site 0 of SHOP.
+HEAD = SHOP.log_head(0)
 OTHER_LOGS = (
     b"",
     b"R 1\n",
-    SHOP.log_name(0)[:-1],
-    SHOP.log_name(0).replace(b"log 1", b"log 2"),
-    SHOP.log_name(1),
-    SHOP.log_name(10) + b"R 1\n",
-    World(3, SHOP.fields).log_name(0) + b"R 1\n",
+    HEAD[:-1],
+    HEAD[: HEAD.index(b"sum")] + sealed(b"R 1\n"),
+    HEAD.replace(b"log 2", b"log 3"),
+    sealed(HEAD[: HEAD.index(b"sum")].replace(b"log 2", b"log 3")),
+    HEAD.replace(b"head 0 0", b"head 0 1"),
+    HEAD.replace(b"sum", b"Sum"),
+    f"escrow log 1\nnumber 0\nworld {NAME}\n".encode(),
+    SHOP.log_head(1),
+    SHOP.log_text(10, b"R 1\n"),
+    World(3, SHOP.fields).log_text(0, b"R 1\n"),
 )
 
-# Records that are none of site 0 of SHOP, each with the number of its first bad line.
+# Batches of records that are none of site 0 of SHOP, each with the number of the first bad one.
 LOGS = (
+    ((b"HELLO\n",), 1),
+    ((b"R 1\n", b"HELLO\nR 2\n"), 2),
+    ((b"R 1\n", b"C 1 1 0 -20\n", b"\n"), 3),
+    ((b"R 1\nR 1\n",), 2),
+    ((b"R 1\n", b"X\nR 2\n"), 2),
+    ((b"R 1\n", b"C 1 1 0 -21\n"), 2),
+    ((b"R 1\n", b"C 1 1 0 -20\nC 1 2 0 -1\n"), 3),
+    ((b"R 1\nG 0 0 l 5\n",), 2),
+    ((b"R 1\n", b"C 1 1 1 -1\n"), 2),
+)
+
+# What stands behind the head of a log that no stop leaves so, each with the line where the batch begins that is damaged.
+RESTARTED = sealed(b"R 1\n")
+DAMAGED_LOGS = (
     (b"hello\n", 1),
-    (b"R 1\nhello\nR 2\n", 2),
-    (b"R 1\nR 1\n", 2),
-    (b"R 1\nC 1 1 0 -21\n", 2),
-    (b"R 1\nC 1 1 0 -20\nC 1 2 0 -1\n", 3),
-    (b"R 1\nG 0 0 l 5\n", 2),
-    (b"R 1\nC 1 1 1 -1\n", 2),
+    (b"sum 0123456789abcdef\n", 1),
+    (b"R 1\nsum 0123456789abcdef\n", 1),
+    (b"R 1" + RESTARTED[4:], 1),
+    (RESTARTED[:4] + RESTARTED, 1),
+    (RESTARTED + RESTARTED[4:], 3),
+    (RESTARTED + b"C 1 1 0 -20\nR 2\nsum 0123456789abcdef\n" + sealed(b"R 3\n"), 3),
+    (RESTARTED + END + b"R", 3),
+    (RESTARTED + END + sealed(b"R 2\n"), 3),
+    (RESTARTED + END + END, 3),
+    (RESTARTED + b"a 2", 3),
+    (RESTARTED + b"R 2\n\0", 3),
+    (RESTARTED + b"R 2s", 3),
+    (RESTARTED + b"R 2\nsun", 3),
 )
 
 COMMAND_LINES: tuple[tuple[list[str], str], ...] = (
@@ -86,6 +114,7 @@ COMMAND_LINES: tuple[tuple[list[str], str], ...] = (
     (["create", "shop", "--schema", "s", "--site", "-1"], "-1"),
     (["create", "shop", "--schema", "s", "--site", "one"], "one"),
     (["create", "shop", "--schema", "s", "--site", "0", "--name"], "--name"),
+    (["create", "shop", "--schema", "s", "--site", "0"], "--name"),
     (["serve"], "FOLDER"),
     (["serve", "shop", "--not-before", "1"], "--not-before"),
     (["serve", "shop", "--not-before", "1", "two"], "two"),
@@ -96,6 +125,13 @@ COMMAND_LINES: tuple[tuple[list[str], str], ...] = (
     (["weave"], "FOLDER"),
     (["weave", "shop", "--trace"], "--trace"),
 )
+
+
+GONE = "isn't there: put the newest log back; a site without it would sell again what it sold"
+OTHERS = "isn't the log of this site: put its own newest log back"
+NO_RECORD = "line {} is no record of this site: put its own newest log back"
+DAMAGED_LINE = "line {} begins no batch with its sum: put its own newest log back"
+LOST = "the logs of these sites are lost: {}: put the newest ones back to settle"
 
 
 def refuses(program: Program, site: Site, words: list[str], status: int, told: str) -> None:
@@ -114,14 +150,19 @@ def refuse_command_lines(program: Program) -> None:
             raise Fault(f"escrow_site {' '.join(words)}: {status}, {out!r}, {err!r}")
 
 
+NAMED = ["--name", SHOP.own_name]
+NO_NAME = "--name NAME is wanted: 1 to 64 of a-z A-Z 0-9 . _ - that no other world of yours has, the same for all sites of this world"
+
+
 def refuse_schemas(program: Program) -> None:
     new = os.path.join(program.folder, "new")
     for text, told in HEADERS:
         schema = program.file("bad.json", text)
-        program.ends(["create", new, "--schema", schema, "--site", "1"], 2, "", f"{schema}: {told}")
-    words = ["create", new, "--schema", f"{new}.json", "--site", "1"]
+        program.ends(["create", new, "--schema", schema, "--site", "1", *NAMED], 2, "", f"{schema}: {told}")
+    words = ["create", new, "--schema", f"{new}.json", "--site", "1", *NAMED]
     program.ends(words, 2, "", f"{new}.json: {os.strerror(2)} (os error 2)")
     schema = program.file("schema.json", f"{SHOP.header()}\n")
+    program.ends(["create", new, "--schema", schema, "--site", "1"], 2, "", NO_NAME)
     for name in ("", "a/b", "a b", "+", "#", "ä", "a\n", "a" * 65):
         told = "--name: a world's name has 1 to 64 of a-z A-Z 0-9 . _ -"
         program.ends(["create", new, "--schema", schema, "--site", "1", "--name", name], 2, "", told)
@@ -130,66 +171,24 @@ def refuse_schemas(program: Program) -> None:
 
 
 def tell_worlds_apart(program: Program) -> None:
-    """Worlds of one header, each with a name of its own or none: the files tell the name, and no two go together, nor is the
-    log of the one taken for that of the other."""
-    schema = program.file("schema.json", f"{SHOP.header()}\n")
-    names = {"rehearsal": "Rehearsal_1.0", "real": "z" * 64, "nameless": ""}
-    for folder, name in names.items():
-        words = ["create", os.path.join(program.folder, folder), "--schema", schema, "--site", "0"]
-        program.ends([*words, "--name", name] if name else words, 0, "", "")
-    named = {folder: os.path.join(program.folder, folder) for folder in names}
-    for folder, name in names.items():
-        world = hashlib.sha256(f"{name}\n{SHOP.header()}".encode()).hexdigest() if name else NAME
-        lines = ["number 0", *([f"name {name}"] if name else []), f"world {world}"]
-        version = 2 if name else 1
-        wanted = {"site": "\n".join([f"escrow site {version}", *lines, SHOP.header(), ""]).encode(),
-                  "log": f"escrow log 1\nnumber 0\nworld {world}\n".encode()}  # fmt: skip
-        if files_of(named[folder]) != wanted:
-            raise Fault(f"{named[folder]}: {files_of(named[folder])}, and not {wanted}")
-        program.ends(["serve", named[folder]], 0, FIRST.format(1, 4, 1), "", b"")
-    for one, other in (("rehearsal", "real"), ("real", "nameless"), ("nameless", "rehearsal")):
-        told = f"{named[other]}: isn't of the world of {named[one]}: name the folders of one world"
+    """Worlds of one header, each with a name of its own: the files tell the name, and no two go together, nor is the log of
+    the one taken for that of the other."""
+    worlds = [World(2, SHOP.fields, name) for name in ("Rehearsal_1.0", "z" * 64, "0")]
+    sites = [program.created(f"apart{number}", world) for number, world in enumerate(worlds)]
+    for world, site in zip(worlds, sites):
+        lines = ["escrow site 2", "number 0", f"name {world.own_name}", f"world {world.name()}", world.header(), ""]
+        wanted = {"site": "\n".join(lines).encode(), "log": world.log_head(0)}
+        if files_of(site.folder) != wanted:
+            raise Fault(f"{site.folder}: {files_of(site.folder)}, and not {wanted}")
+        program.ends(["serve", site.folder], 0, FIRST.format(1, 4, 1), "", b"")
+        if files_of(site.folder)["log"] != world.log_text(0, b"R 1\n"):
+            raise Fault(f"{site.folder}: the log is {files_of(site.folder)['log']!r}")
+    for one, other in zip(sites, sites[1:] + sites[:1]):
+        told = f"{other.folder}: isn't of the world of {one.folder}: name the folders of one world"
         for word in ("check", "settle", "weave"):
-            program.ends([word, named[one], named[other]], 2, "", told)
-    os.replace(f"{named['rehearsal']}/log", f"{named['real']}/log")
-    told = f"{named['real']}/log: isn't the log of this site: put its own newest log back"
-    program.ends(["serve", named["real"]], 3, "", told)
-
-
-ENDED = "was settled: serve the sites of the world that goes on from there, and this folder never again"
-
-
-def end_worlds(program: Program) -> None:
-    """`settle` closes the world that it ends, where its header was taken: not while a site is served, and not dry."""
-    sites = [program.created(f"ended{number}", SHOP, number, True) for number in range(2)]
-    folders = [it.folder for it in sites]
-    served = ["serve", folders[1], "--trace"]
-    program.ends(["serve", folders[0], "--trace"], 0, FIRST.format(1, 4, 1) + SOLD, "", COMMIT)
-    with subprocess.Popen([program.path, *served], stdin=subprocess.PIPE, stdout=subprocess.PIPE) as running:
-        if running.stdout is None or running.stdout.readline() != b"ready 1 1 4\n":
-            raise Fault(f"{folders[1]}: not served")
-        header = f"{settled([it.log() for it in sites]).header()}\n"
-        program.ends(["settle", *folders], 6, "", f"{folders[1]}/log: in use: another process serves it")
-        program.ends(["settle", "--dry-run", *folders], 0, header, "")
-        running.communicate(timeout=60)
-    with open("/dev/full", "wb") as full:
-        program.ends(["settle", *folders], 1, "", "write fault", stdout=full)
-    program.ends(["settle", folders[0]], 3, "field stock between 0 50\n", LOST.format(1))
-    program.ends(served, 0, "ready 1 2 8\n1 restart -> restarted 2 nothing\n", "", b"")
-    told = {word: program.run([word, *folders[: 1 if word == "show" else 2]]) for word in ("show", "check", "weave")}
-    program.ends(["settle", *folders], 0, header, "")
-    for site in sites:
-        for how in ([], ["--trace"]):
-            refuses(program, site, ["serve", *how], 3, f"{site.folder}: {ENDED}")
-    for word, before in told.items():
-        if program.run([word, *folders[: 1 if word == "show" else 2]]) != before:
-            raise Fault(f"{word} of a settled world: not as it was")
-    again = "all folders were settled before, and the header was written then: --again writes it once more"
-    program.ends(["settle", *folders], 3, "", again)
-    program.ends(["settle", "--again", *folders], 0, header, "")
-    os.remove(f"{folders[1]}/settled")
-    program.ends(["settle", *folders], 0, header, "")
-    refuses(program, sites[1], ["serve"], 3, f"{folders[1]}: {ENDED}")
+            program.ends([word, one.folder, other.folder], 2, "", told)
+    os.replace(f"{sites[0].folder}/log", f"{sites[1].folder}/log")
+    refuses(program, sites[1], ["serve"], 3, f"{sites[1].folder}/log: {OTHERS}")
 
 
 def refuse_folders(program: Program) -> None:
@@ -209,18 +208,16 @@ def refuse_folders(program: Program) -> None:
 def refuse_logs(program: Program) -> None:
     site = program.created("bad_logs")
     log = f"{site.folder}/log"
-    for text in OTHER_LOGS:
-        program.file("bad_logs/log", text.decode())
+    held = [(text, OTHERS) for text in OTHER_LOGS]
+    held += [(SHOP.log_text(0, *batches), NO_RECORD.format(line)) for batches, line in LOGS]
+    held += [(HEAD + text, DAMAGED_LINE.format(line)) for text, line in DAMAGED_LOGS]
+    for text, told in held:
+        program.put("bad_logs/log", text)
         for word in ("serve", "show"):
-            refuses(program, site, [word], 3, f"{log}: isn't the log of this site: put its own newest log back")
-    for text, line in LOGS:
-        program.file("bad_logs/log", (SHOP.log_name(0) + text).decode())
-        for word in ("serve", "show"):
-            refuses(program, site, [word], 3, f"{log}: line {line} is no record of this site: put its own newest log back")
+            refuses(program, site, [word], 3, f"{log}: {told}")
     os.remove(log)
-    gone = f"{log}: isn't there: put the newest log back; a site without it would sell again what it sold"
     for word in ("serve", "show"):
-        refuses(program, site, [word], 3, gone)
+        refuses(program, site, [word], 3, f"{log}: {GONE}")
 
 
 def refuse_exchanged(program: Program) -> None:
@@ -228,8 +225,8 @@ def refuse_exchanged(program: Program) -> None:
     sites = [program.created(f"exchanged{number}", SHOP, number) for number in (0, 1)]
     texts = [files_of(site.folder)["log"] for site in sites]
     for site, text in zip(sites, reversed(texts)):
-        program.file(f"exchanged{site.number}/log", text.decode())
-        refuses(program, site, ["serve"], 3, f"{site.folder}/log: isn't the log of this site: put its own newest log back")
+        program.put(f"exchanged{site.number}/log", text)
+        refuses(program, site, ["serve"], 3, f"{site.folder}/log: {OTHERS}")
 
 
 def refuse_old_copy(program: Program) -> None:
@@ -271,7 +268,7 @@ def refuse_traces(program: Program) -> None:
     program.ends(["serve", site.folder, "--trace"], 0, FIRST.format(1, 4, 1) + SOLD, "", COMMIT)
     refuses(program, site, ["serve"], 3, f"{trace}: is there: serve with --trace, so that it misses nothing")
     told = [(name + text, why) for text, why in TRACES]
-    names = ("", name[:-1], ALONE.log_name(0).decode(), SHOP.trace_name(0).decode())
+    names = ("", name[:-1], ALONE.log_head(0).decode(), SHOP.trace_name(0).decode())
     told += [(other + OPENED + SOLD, NOT_ITS_TRACE) for other in names]
     for text, why in told:
         program.file("traced/trace", text)
@@ -316,27 +313,25 @@ def refuse_folder_lists(program: Program) -> None:
         program.ends([word, second], 2, "", told)
 
 
-LOST = "the logs of these sites are lost: {}: put the newest ones back to settle"
 
 
 def refuse_worlds(program: Program) -> None:
     """Logs that don't go together, and logs that are lost."""
     first, second = (program.created(f"together{number}", SHOP, number).folder for number in (0, 1))
-    program.ends(["check", first, second], 0, f"world {NAME}\nsites 2\nfield stock value 40 floor 0 ceiling 100\n", "")
+    program.ends(["check", first, second], 0, f"world {SHOP.name()}\nsites 2\nfield stock value 40 floor 0 ceiling 100\n", "")
     program.ends(["settle", second], 3, "field stock between 20 70\n", LOST.format(0))
     log = f"{second}/log"
-    program.file("together1/log", f"{SHOP.log_name(1).decode()}R 1\nA 0 0 l 5\n")
+    program.put("together1/log", SHOP.log_text(1, b"R 1\n", b"A 0 0 l 5\n"))
     told = "site 1 accepted 5 lower on stock from site 0, which gave 0"
     told = f"{first}/log: {told}: this log is older than what it gave: put its newest log back"
     for word in ("check", "settle"):
         program.ends([word, first, second], 3, "", told)
-    program.file("together1/log", f"{SHOP.log_name(1).decode()}R 1\nR 1\n")
+    program.put("together1/log", SHOP.log_text(1, b"R 1\n", b"R 1\n"))
     for word in ("check", "settle"):
         told = f"{log}: line 2 is no record of this site: put its own newest log back"
         program.ends([word, first, second], 3, "", told)
     os.remove(log)
-    told = f"{log}: isn't there: put the newest log back; a site without it would sell again what it sold"
-    program.ends(["check", first, second], 3, "", told)
+    program.ends(["check", first, second], 3, "", f"{log}: {GONE}")
     program.ends(["settle", first, second], 3, "field stock between 20 70\n", LOST.format(1))
 
 
@@ -344,15 +339,16 @@ def refuse_two_faults(program: Program) -> None:
     """A log that can't be read is told before one that breaks a rule, of whichever site; and of rules the lowest site's."""
     first, second = (program.created(f"faults{number}", SHOP, number).folder for number in (0, 1))
     broken = "line 2 is no record of this site: put its own newest log back"
-    program.file("faults0/log", f"{SHOP.log_name(0).decode()}R 1\nR 1\n")
+    program.put("faults0/log", SHOP.log_text(0, b"R 1\nR 1\n"))
     logs = (
-        (f"{SHOP.log_name(1).decode()}R 1\nR 2\nhello\n", f"{second}/log: {broken.replace('2', '3')}"),
-        (f"{SHOP.log_name(0).decode()}R 1\n", f"{second}/log: isn't the log of this site: put its own newest log back"),
-        (f"{SHOP.log_name(1).decode()}R 2\nR 3\nR 1\n", f"{first}/log: {broken}"),
-        (f"{SHOP.log_name(1).decode()}R 1\n", f"{first}/log: {broken}"),
+        (SHOP.log_text(1, b"R 1\nR 2\n", b"HELLO\n"), f"{second}/log: {broken.replace('2', '3')}"),
+        (SHOP.log_text(0, b"R 1\n"), f"{second}/log: {OTHERS}"),
+        (SHOP.log_text(1, b"R 1\n") + b"?", f"{second}/log: {DAMAGED_LINE.format(3)}"),
+        (SHOP.log_text(1, b"R 2\nR 3\nR 1\n"), f"{first}/log: {broken}"),
+        (SHOP.log_text(1, b"R 1\n"), f"{first}/log: {broken}"),
     )
     for text, told in logs:
-        program.file("faults1/log", text)
+        program.put("faults1/log", text)
         for word in ("check", "settle"):
             program.ends([word, first, second], 3, "", told)
     os.remove(f"{second}/log")
@@ -360,53 +356,51 @@ def refuse_two_faults(program: Program) -> None:
     program.ends(["settle", first, second], 3, "", f"{first}/log: {broken}")
     world = World(3, SHOP.fields)
     named = [program.created(f"three_faults{number}", world, number).folder for number in (0, 2)]
-    program.file("three_faults0/log", f"{world.log_name(0).decode()}R 1\nR 1\n")
-    program.file("three_faults2/log", f"{world.log_name(2).decode()}hello\n")
+    program.put("three_faults0/log", world.log_text(0, b"R 1\nR 1\n"))
+    program.put("three_faults2/log", world.log_text(2, b"HELLO\n"))
     program.ends(["settle", *named], 3, "", f"{named[1]}/log: {broken.replace('2', '1')}")
-
-
-GONE = "isn't there: put the newest log back; a site without it would sell again what it sold"
-OTHERS = "isn't the log of this site: put its own newest log back"
-NO_RECORD = "line {} is no record of this site: put its own newest log back"
 
 
 @dataclasses.dataclass(frozen=True)
 class LogKind:
-    """A log of a site of three: its records, None where there is no log, and why it can't be read, or breaks a rule."""
+    """A log of a site of three: its batches of records, None where there is no log, and what stands behind them; and why it
+    can't be read, or breaks a rule."""
 
-    records: str | None
+    batches: tuple[str, ...] | None
+    behind: str = ""
     unread: str = ""
     broken: str = ""
 
 
-ACCEPTS = LogKind("R 1\nA {giver} 0 l 5\n")
+ACCEPTS = LogKind(("R 1\n", "A {giver} 0 l 5\n"))
 LOG_KINDS = (
-    LogKind("R 1\nR 2\nR"),
-    LogKind("R 1\nhello\nR 1\n", unread=NO_RECORD.format(2)),
-    LogKind("R 1\nR 1\nR 2\nhello\n", unread=NO_RECORD.format(4)),
-    LogKind("R 1\nR 2\nR 2\n", broken=NO_RECORD.format(3)),
+    LogKind(("R 1\n", "R 2\n"), behind="R"),
+    LogKind(("R 1\n", "HELLO\nR 1\n"), unread=NO_RECORD.format(2)),
+    LogKind(("R 1\nR 1\n", "R 2\n", "HELLO\n"), unread=NO_RECORD.format(4)),
+    LogKind(("R 1\n", "R 2\nR 2\n"), broken=NO_RECORD.format(3)),
+    LogKind(("R 1\n", "R 1\n"), behind="R 2\nsum!", unread=DAMAGED_LINE.format(5)),
     LogKind(None, unread=GONE),
-    LogKind("of another", unread=OTHERS),
+    LogKind((), behind="of another", unread=OTHERS),
     ACCEPTS,
 )
 
 
 def put_log(site: Site, kind: LogKind) -> None:
-    if kind.records is None:
+    if kind.batches is None:
         if os.path.exists(f"{site.folder}/log"):
             os.remove(f"{site.folder}/log")
         return
     owner = (site.number + 1) % site.world.sites if kind.unread == OTHERS else site.number
-    records = kind.records.format(giver=(site.number + 1) % site.world.sites)
+    batches = [it.format(giver=(site.number + 1) % site.world.sites).encode() for it in kind.batches]
     with open(f"{site.folder}/log", "wb") as file:
-        file.write(site.world.log_name(owner) + records.encode())
+        file.write(site.world.log_text(owner, *batches) + kind.behind.encode())
 
 
 def first_fault(word: str, logs: list[tuple[Site, LogKind]]) -> str:
     """What is told: the first log that can't be read, else the lowest site's that breaks a rule. A settling reads no lost log."""
     for why in ("unread", "broken"):
         for site, kind in logs:
-            if getattr(kind, why) and (word == "check" or kind.records is not None):
+            if getattr(kind, why) and (word == "check" or kind.batches is not None):
                 return f"{site.folder}/log: {getattr(kind, why)}"
     return ""
 
@@ -425,10 +419,8 @@ def refuse_each_three(program: Program) -> None:
                 program.ends([word, *folders], 3, "", told)
                 continue
             status, _, err = program.run([word, *folders])
-            for folder in folders if (word, status) == ("settle", 0) else ():
-                os.remove(f"{folder}/settled")
-            is_lost = any(kind.records is None for kind in kinds)
-            is_more = any(kind is ACCEPTS and kinds[(at + 1) % 3].records is not None for at, kind in enumerate(kinds))
+            is_lost = any(kind.batches is None for kind in kinds)
+            is_more = any(kind is ACCEPTS and kinds[(at + 1) % 3].batches is not None for at, kind in enumerate(kinds))
             if status != (3 if is_lost or is_more else 0) or is_more != ("which gave 0" in err):
                 raise Fault(f"{word} over {kinds}: {status}, {err!r}")
 
@@ -438,7 +430,7 @@ def refuse_too_much(program: Program) -> None:
     world = World(3, SHOP.fields)
     first, second = (program.created(f"of_three{number}", world, number).folder for number in (0, 1))
     program.ends(["settle", second], 3, "field stock between 13 80\n", LOST.format("0 2"))
-    program.file("of_three0/log", f"{world.log_name(0).decode()}A 2 0 l 66\n")
+    program.put("of_three0/log", world.log_text(0, b"A 2 0 l 66\n"))
     told = "the logs have more rights than it is wide: one is older than what its site gave"
     told = f"field stock: {told}: put the newest ones back"
     program.ends(["settle", first, second], 3, "", told)
@@ -482,7 +474,6 @@ MISUSES = (
     refuse_command_lines,
     refuse_schemas,
     tell_worlds_apart,
-    end_worlds,
     refuse_folders,
     refuse_logs,
     refuse_exchanged,

@@ -1,6 +1,10 @@
-"""What the log of a site stands for, by docs/FORMATS.md alone: the model that .ci/site compares the program with."""
+"""What the log of a site holds and stands for, by docs/FORMATS.md alone: the model that .ci/site compares the program
+with."""
+from __future__ import annotations
+
 import dataclasses
 import hashlib
+import re
 from collections import defaultdict
 
 LOWER, RAISE = "lower", "raise"
@@ -9,6 +13,53 @@ KINDS = {"l": LOWER, "r": RAISE}
 
 class NoLog(Exception):
     """A log that breaks a rule."""
+
+
+def sum_line(text: bytes) -> bytes:
+    """The line that closes a batch: 64 bits of its SHA-256."""
+    return b"sum %s\n" % hashlib.sha256(text).hexdigest()[:16].encode()
+
+
+def sealed(*batches: bytes) -> bytes:
+    return b"".join(it + sum_line(it) for it in batches)
+
+
+END = sealed(b"X\n")
+LETTERS = b"ABCDEFGHIJKLMNOPQRSTUVWXYZ0123456789lr -\n"
+# A batch, and what stands in place of its sum line.
+BATCH = re.compile(rb"((?:[A-Z0-9lr -]*\n)+)(sum [0-9a-f]{16}\n)")
+
+
+def is_torn(rest: bytes) -> bool:
+    """Whether this is a front of a batch with its sum, and not all of it."""
+    behind = rest.lstrip(LETTERS)
+    batch = rest.removesuffix(behind)
+    line = sum_line(batch)
+    return not behind or (batch.endswith(b"\n") and behind != line and line.startswith(behind))
+
+
+@dataclasses.dataclass(frozen=True)
+class Text:
+    """The text of a log behind its first lines: the batches that sums close, whether the last of them ends the log, how
+    many bytes they have with their sums, and the line at which it is damaged, or None."""
+
+    batches: tuple[bytes, ...]
+    is_ended: bool
+    whole: int
+    bad_line: int | None
+
+    @staticmethod
+    def of(text: bytes) -> Text:
+        batches: list[bytes] = []
+        at, is_ended = 0, False
+        while (found := BATCH.match(text, at)) and not is_ended and sum_line(found[1]) == found[2]:
+            is_ended = found[1] == b"X\n"
+            if not is_ended:
+                batches.append(found[1])
+            at = found.end()
+        is_well = text[at:] == b"" if is_ended else is_torn(text[at:])
+        begin = sum(map(len, map(sealed, batches)))
+        return Text(tuple(batches), is_ended, at, None if is_well else 1 + text[:begin].count(b"\n"))
 
 
 @dataclasses.dataclass(frozen=True)
@@ -21,8 +72,11 @@ class Field:
 
 @dataclasses.dataclass(frozen=True)
 class World:
+    """A world with a name of its own."""
+
     sites: int
     fields: tuple[Field, ...]
+    own_name: str = "shops-2026"
 
     def header(self) -> str:
         fields = ",".join(
@@ -31,13 +85,19 @@ class World:
         return f'{{"sites":{self.sites},"fields":[{fields}]}}'
 
     def name(self) -> str:
-        return hashlib.sha256(self.header().encode()).hexdigest()
+        return hashlib.sha256(f"{self.own_name}\n{self.header()}".encode()).hexdigest()
 
-    def log_name(self, site: int) -> bytes:
-        return f"escrow log 1\nnumber {site}\nworld {self.name()}\n".encode()
+    def owner(self, site: int) -> str:
+        return f"number {site}\nworld {self.name()}\n"
+
+    def log_head(self, site: int) -> bytes:
+        return sealed(f"escrow log 2\n{self.owner(site)}head 0 0\n".encode())
+
+    def log_text(self, site: int, *batches: bytes) -> bytes:
+        return self.log_head(site) + sealed(*batches)
 
     def trace_name(self, site: int) -> bytes:
-        return self.log_name(site).replace(b"escrow log", b"escrow trace", 1)
+        return f"escrow trace 1\n{self.owner(site)}".encode()
 
     def part(self, site: int, field: Field, kind: str) -> int:
         total = field.value - field.floor if kind == LOWER else field.ceiling - field.value
@@ -62,12 +122,15 @@ class Log:
         self.accepted: Totals = defaultdict(int)
         self.commits: dict[str, list[tuple[int, int]]] = {}
         self.epoch = 0
-        name = world.log_name(site)
-        if not text.startswith(name):
-            raise NoLog(f"it doesn't begin with the name of site {site}")
-        whole = text[len(name) : text.rfind(b"\n") + 1]
-        self.length = len(whole)
-        for line in whole.decode().splitlines():
+        head = world.log_head(site)
+        if not text.startswith(head):
+            raise NoLog(f"it doesn't begin with the head of site {site}")
+        self.text = Text.of(text[len(head) :])
+        if self.text.bad_line:
+            raise NoLog(f"line {self.text.bad_line} begins no batch with its sum")
+        records = b"".join(self.text.batches)
+        self.length = len(records)
+        for line in records.decode().splitlines():
             self.take(line)
 
     def take(self, line: str) -> None:
@@ -185,7 +248,7 @@ def settled(logs: list[Log]) -> World:
     for number, field in enumerate(world.fields):
         lower, upper = (sum(log.cut[number, kind] for log in logs) for kind in (LOWER, RAISE))
         fields.append(Field(field.name, field.floor + lower, field.ceiling - upper, committed(logs, number, field)))
-    return World(world.sites, tuple(fields))
+    return World(world.sites, tuple(fields), f"{world.own_name}-anew")
 
 
 def checked(logs: list[Log]) -> list[str]:

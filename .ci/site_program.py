@@ -8,7 +8,7 @@ from gate_programs import Children, Fault
 from site_model import Field, Log, World
 
 SHOP = World(2, (Field("stock", 0, 100, 40),))
-ALONE = World(1, SHOP.fields)
+ALONE = World(1, SHOP.fields, "kiosk-2026")
 COMMIT = b"0 begin\n0 escrow 1.1 stock -20\n0 commit 1.1\n"
 FIRST = "ready 1 {} {}\n0 restart -> restarted {} nothing\n"
 SOLD = "0 begin -> begun 1.1\n0 escrow 1.1 stock -20 -> granted\n0 commit 1.1 -> committed\n"
@@ -54,16 +54,19 @@ class Program:
         if ended != wanted:
             raise Fault(f"escrow_site {' '.join(words)}: {ended}, and not {wanted}")
 
-    def file(self, name: str, text: str) -> str:
+    def put(self, name: str, held: bytes) -> str:
         path = os.path.join(self.folder, name)
-        with open(path, "w", encoding="utf-8") as file:
-            file.write(text)
+        with open(path, "wb") as file:
+            file.write(held)
         return path
+
+    def file(self, name: str, text: str) -> str:
+        return self.put(name, text.encode())
 
     def created(self, name: str, world: World = SHOP, site: int = 0, is_traced: bool = False) -> Site:
         schema = self.file("schema.json", f"{world.header()}\n")
         folder = os.path.join(self.folder, name)
-        self.ends(["create", folder, "--schema", schema, "--site", str(site)], 0, "", "")
+        self.ends(["create", folder, "--schema", schema, "--site", str(site), "--name", world.own_name], 0, "", "")
         return Site(world, site, folder, is_traced)
 
 
