@@ -7,7 +7,7 @@ import os
 import shutil
 
 from gate_programs import AT_ONCE, Fault
-from site_misuse import DAMAGED_LINE, OTHERS, refuses
+from site_misuse import OTHERS, damaged, refuses
 from site_model import END, Log, Text, sum_line
 from site_program import SHOP, Program, Site, files_of
 
@@ -57,7 +57,7 @@ def why_refused(text: bytes) -> str:
     if not text.startswith(head):
         return OTHERS
     bad_line = Text.of(text[len(head) :]).bad_line
-    return DAMAGED_LINE.format(bad_line) if bad_line else ""
+    return damaged(bad_line) if bad_line else ""
 
 
 def copied(program: Program, site: Site, number: int) -> Site:

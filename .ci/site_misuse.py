@@ -130,8 +130,12 @@ COMMAND_LINES: tuple[tuple[list[str], str], ...] = (
 GONE = "isn't there: put the newest log back; a site without it would sell again what it sold"
 OTHERS = "isn't the log of this site: put its own newest log back"
 NO_RECORD = "line {} is no record of this site: put its own newest log back"
-DAMAGED_LINE = "line {} begins no batch with its sum: put its own newest log back"
 LOST = "the logs of these sites are lost: {}: put the newest ones back to settle"
+
+
+def damaged(line: int) -> str:
+    """Why a log is refused in which the batch that begins at this line behind its head is damaged: lines of the file are told."""
+    return f"line {5 + line}: the batch that begins there is damaged: put its own newest log back"
 
 
 def refuses(program: Program, site: Site, words: list[str], status: int, told: str) -> None:
@@ -210,7 +214,7 @@ def refuse_logs(program: Program) -> None:
     log = f"{site.folder}/log"
     held = [(text, OTHERS) for text in OTHER_LOGS]
     held += [(SHOP.log_text(0, *batches), NO_RECORD.format(line)) for batches, line in LOGS]
-    held += [(HEAD + text, DAMAGED_LINE.format(line)) for text, line in DAMAGED_LOGS]
+    held += [(HEAD + text, damaged(line)) for text, line in DAMAGED_LOGS]
     for text, told in held:
         program.put("bad_logs/log", text)
         for word in ("serve", "show"):
@@ -343,7 +347,7 @@ def refuse_two_faults(program: Program) -> None:
     logs = (
         (SHOP.log_text(1, b"R 1\nR 2\n", b"HELLO\n"), f"{second}/log: {broken.replace('2', '3')}"),
         (SHOP.log_text(0, b"R 1\n"), f"{second}/log: {OTHERS}"),
-        (SHOP.log_text(1, b"R 1\n") + b"?", f"{second}/log: {DAMAGED_LINE.format(3)}"),
+        (SHOP.log_text(1, b"R 1\n") + b"?", f"{second}/log: {damaged(3)}"),
         (SHOP.log_text(1, b"R 2\nR 3\nR 1\n"), f"{first}/log: {broken}"),
         (SHOP.log_text(1, b"R 1\n"), f"{first}/log: {broken}"),
     )
@@ -378,7 +382,7 @@ LOG_KINDS = (
     LogKind(("R 1\n", "HELLO\nR 1\n"), unread=NO_RECORD.format(2)),
     LogKind(("R 1\nR 1\n", "R 2\n", "HELLO\n"), unread=NO_RECORD.format(4)),
     LogKind(("R 1\n", "R 2\nR 2\n"), broken=NO_RECORD.format(3)),
-    LogKind(("R 1\n", "R 1\n"), behind="R 2\nsum!", unread=DAMAGED_LINE.format(5)),
+    LogKind(("R 1\n", "R 1\n"), behind="R 2\nsum!", unread=damaged(5)),
     LogKind(None, unread=GONE),
     LogKind((), behind="of another", unread=OTHERS),
     ACCEPTS,

@@ -14,7 +14,7 @@ from site_program import COMMIT, FIRST, SHOP, SOLD, Program, Site, files_of
 
 ENDED = "was settled: serve the sites of the world that goes on from there, and this folder never again"
 AGAIN = "all folders were settled before, and the header was written then: --again writes it once more"
-FULL = "device fault: write: File too large (os error 27): nothing more is answered: make room, and serve it again"
+NOT_CLOSED = "File too large (os error 27): the folder isn't closed: make room, and settle with --again before the header is used"
 
 
 def logs_of(sites: list[Site]) -> list[bytes]:
@@ -89,12 +89,14 @@ def end_in_part(program: Program) -> None:
     """Where the second log can't take its end, or not all of it, it is told, and the next `settle` ends it."""
     for room in range(len(END)):
         sites = sold(program, f"full_end{room}_")
-        program.ends(["serve", sites[1].folder, "--trace"], 0, "ready 1 2 8\n1 restart -> restarted 2 nothing\n", "", b"")
+        for epoch in (2, 3, 4):
+            started = FIRST.format(epoch, 4 * epoch, epoch).replace("0 restart", "1 restart")
+            program.ends(["serve", sites[1].folder, "--trace"], 0, started, "", b"")
         folders, before = [it.folder for it in sites], logs_of(sites)
         header = f"{settled([it.log() for it in sites]).header()}\n"
         # (the first log is so short that its end finds room; the signal of a file past its limit stays ignored)
         how = {"preexec_fn": limited(resource.RLIMIT_FSIZE, len(before[1]) + room), "restore_signals": False}
-        program.ends(["settle", *reversed(folders)], 5, header, f"{folders[1]}/log: {FULL}", **how)
+        program.ends(["settle", *reversed(folders)], 5, header, f"{folders[1]}/log: {NOT_CLOSED}", **how)
         if logs_of(sites) != [before[0] + END, before[1] + END[:room]]:
             raise Fault(f"{folders}: settled in part, and their logs are {logs_of(sites)}")
         program.ends(["settle", *(["--again"] if room % 2 else []), *folders], 0, header, "")
