@@ -100,7 +100,7 @@ DAMAGED_LOGS = (
     (RESTARTED + b"C 1 1 0 -20\nR 2\nsum 0123456789abcdef\n" + sealed(b"R 3\n"), 3),
     (RESTARTED + END + b"R", 3),
     (RESTARTED + END + sealed(b"R 2\n"), 3),
-    (RESTARTED + END + END, 3),
+    (RESTARTED + END + END[:-1], 3),
     (RESTARTED + b"a 2", 3),
     (RESTARTED + b"R 2\n\0", 3),
     (RESTARTED + b"R 2s", 3),
@@ -199,7 +199,7 @@ def refuse_folders(program: Program) -> None:
     site = program.created("taken")
     schema = os.path.join(program.folder, "schema.json")
     there = f"{site.folder}: is there already: create takes a path at which nothing is"
-    refuses(program, site, ["create", "--schema", schema, "--site", "0"], 3, there)
+    refuses(program, site, ["create", "--schema", schema, "--site", "0", *NAMED], 3, there)
     nowhere = os.path.join(program.folder, "nowhere")
     for word in ("serve", "show"):
         program.ends([word, nowhere], 3, "", f"{nowhere}/site: isn't there: a site's folder is made by create")
