@@ -124,13 +124,14 @@ COMMAND_LINES: tuple[tuple[list[str], str], ...] = (
     (["settle"], "FOLDER"),
     (["weave"], "FOLDER"),
     (["weave", "shop", "--trace"], "--trace"),
+    (["version", "shop"], "shop"),
 )
 
 
 GONE = "isn't there: put the newest log back; a site without it would sell again what it sold"
 OTHERS = "isn't the log of this site: put its own newest log back"
 NO_RECORD = "line {} is no record of this site: put its own newest log back"
-LOST = "the logs of these sites are lost: {}: put the newest ones back to settle"
+LOST = "the logs of these sites are lost: {}: nothing was closed: put the newest ones back to settle"
 
 
 def damaged(line: int) -> str:
@@ -152,6 +153,15 @@ def refuse_command_lines(program: Program) -> None:
         status, out, err = program.run(words)
         if (status, out) != (2, "") or named not in err:
             raise Fault(f"escrow_site {' '.join(words)}: {status}, {out!r}, {err!r}")
+
+
+VERSIONS = "escrow_site: reads site 1 2, log 1 2, trace 1; makes site 2, log 2, trace 1; answers ready 1\n"
+
+
+def tell_versions(program: Program) -> None:
+    program.ends(["version"], 0, VERSIONS, "")
+    with open("/dev/full", "wb") as full:
+        program.ends(["version"], 1, "", "write fault", stdout=full)
 
 
 NAMED = ["--name", SHOP.own_name]
@@ -476,6 +486,7 @@ def refuse_second(program: Program) -> None:
 
 MISUSES = (
     refuse_command_lines,
+    tell_versions,
     refuse_schemas,
     tell_worlds_apart,
     refuse_folders,
