@@ -29,9 +29,8 @@ class Site:
             return Log(self.world, self.number, file.read())
 
     def traced_since(self, line: str) -> list[str]:
-        """The whole lines of the trace from the last such line on."""
-        with open(f"{self.folder}/trace", "rb") as file:
-            lines = file.read().decode().split("\n")[:-1]
+        """The whole lines of the trace from the last such line on: none, where a stop came before there was a trace."""
+        lines = files_of(self.folder).get("trace", b"").decode().split("\n")[:-1]
         if line not in lines:
             return []
         return lines[len(lines) - 1 - lines[::-1].index(line) :]
