@@ -101,7 +101,7 @@ DAMAGED_LOGS = (
     (RESTARTED + END + b"R", 3),
     (RESTARTED + END + sealed(b"R 2\n"), 3),
     (RESTARTED + END + END[:-1], 3),
-    (RESTARTED + b"a 2", 3),
+    (RESTARTED + b"b 2", 3),
     (RESTARTED + b"R 2\n\0", 3),
     (RESTARTED + b"R 2s", 3),
     (RESTARTED + b"R 2\nsun", 3),

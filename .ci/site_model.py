@@ -25,9 +25,9 @@ def sealed(*batches: bytes) -> bytes:
 
 
 END = sealed(b"X\n")
-LETTERS = b"ABCDEFGHIJKLMNOPQRSTUVWXYZ0123456789lr -\n"
+LETTERS = b"ABCDEFGHIJKLMNOPQRSTUVWXYZ0123456789aglrt -\n"
 # A batch, and what stands in place of its sum line.
-BATCH = re.compile(rb"((?:[A-Z0-9lr -]*\n)+)(sum [0-9a-f]{16}\n)")
+BATCH = re.compile(rb"((?:[A-Z0-9aglrt -]*\n)+)(sum [0-9a-f]{16}\n)")
 
 
 def is_torn(rest: bytes) -> bool:
