@@ -17,7 +17,8 @@ STARTS = (
     "0 accept 1 0 stock lower 4\n0 begin\n0 escrow 2.1 stock 3\n0 commit 2.1\n0 accept 1 0 stock raise 2\n",
     "0 begin\n0 escrow 3.1 stock -9\n0 escrow 3.1 stock -1\n0 commit 3.1\n0 give 1 stock lower 1\n0 tighten stock lower 1\n",
     "0 begin\n0 escrow 4.1 stock -1\n0 commit 4.1\n0 begin\n0 escrow 4.2 stock 12\n0 commit 4.2\n0 give 1 stock raise 4\n",
-    "0 accept 1 0 stock lower 5\n0 begin\n0 escrow 5.1 stock -4\n0 commit 5.1\n0 begin\n0 escrow 5.2 stock -2\n0 commit 5.2\n",
+    "0 accept 1 0 stock lower 5\n0 begin\n0 escrow 5.1 stock -4\n0 commit 5.1\n0 begin\n0 escrow 5.2 stock -2\n"
+    "0 commit 5.2\n",
 )
 GIFTS = "1 give 0 stock lower 4\n1 give 0 stock raise 2\n1 give 0 stock lower 1\n"
 KEPT = ("1.1", "2.1", "3.1", "4.1", "4.2", "5.1", "5.2")
@@ -84,6 +85,8 @@ def show_each(program: Program, site: Site, texts: list[bytes]) -> None:
         why = why_refused(text)
         told = f"{site.folder}/log: {why}" if why else ""
         program.ends(["show", site.folder], 3 if why else 0, "" if why else shown(site, text), told)
+        if files_of(site.folder)["log"] != text:
+            raise Fault(f"{site.folder}: shown, and changed: {text!r}")
 
 
 def serve_each(program: Program, site: Site, texts: list[bytes]) -> None:
@@ -128,7 +131,7 @@ def damage_whole_logs(program: Program) -> None:
 
 
 def damage_torn_ends(program: Program) -> None:
-    """Each bit and each byte behind the last closed batch: it is cut off or refused, and no commit that was answered is lost."""
+    """Each bit and each byte behind the last closed batch: it is cut off or refused, and no answered commit is lost."""
     site = grown(program, "damaged_end")
     log = files_of(site.folder)["log"]
     texts = []

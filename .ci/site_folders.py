@@ -111,7 +111,7 @@ def serve_old_folders(program: Program) -> None:
         with open(f"{world.kept()}.told", encoding="utf-8", newline="") as file:
             wanted = file.read()
         if answered != wanted:
-            raise Fault(f"the folders of .ci/folders/{world.name} are answered otherwise: {first_difference(answered, wanted)}")
+            raise Fault(f".ci/folders/{world.name} is answered otherwise: {first_difference(answered, wanted)}")
 
 
 def write(path: str) -> None:

@@ -135,7 +135,7 @@ LOST = "the logs of these sites are lost: {}: nothing was closed: put the newest
 
 
 def damaged(line: int) -> str:
-    """Why a log is refused in which the batch that begins at this line behind its head is damaged: lines of the file are told."""
+    """Why a log is refused in which the batch is damaged that begins at this line behind the head, as lines of the file."""
     return f"line {5 + line}: the batch that begins there is damaged: put its own newest log back"
 
 
@@ -165,7 +165,10 @@ def tell_versions(program: Program) -> None:
 
 
 NAMED = ["--name", SHOP.own_name]
-NO_NAME = "--name NAME is wanted: 1 to 64 of a-z A-Z 0-9 . _ - that no other world of yours has, the same for all sites of this world"
+NO_NAME = (
+    "--name NAME is wanted: 1 to 64 of a-z A-Z 0-9 . _ - that no other world of yours has, "
+    "the same for all sites of this world"
+)
 
 
 def refuse_schemas(program: Program) -> None:
@@ -332,7 +335,8 @@ def refuse_folder_lists(program: Program) -> None:
 def refuse_worlds(program: Program) -> None:
     """Logs that don't go together, and logs that are lost."""
     first, second = (program.created(f"together{number}", SHOP, number).folder for number in (0, 1))
-    program.ends(["check", first, second], 0, f"world {SHOP.name()}\nsites 2\nfield stock value 40 floor 0 ceiling 100\n", "")
+    value = f"world {SHOP.name()}\nsites 2\nfield stock value 40 floor 0 ceiling 100\n"
+    program.ends(["check", first, second], 0, value, "")
     program.ends(["settle", second], 3, "field stock between 20 70\n", LOST.format(0))
     log = f"{second}/log"
     program.put("together1/log", SHOP.log_text(1, b"R 1\n", b"A 0 0 l 5\n"))

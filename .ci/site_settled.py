@@ -14,7 +14,9 @@ from site_program import COMMIT, FIRST, SHOP, SOLD, Program, Site, files_of
 
 ENDED = "was settled: serve the sites of the world that goes on from there, and this folder never again"
 AGAIN = "all folders were settled before, and the header was written then: --again writes it once more"
-NOT_CLOSED = "File too large (os error 27): the folder isn't closed: make room, and settle with --again before the header is used"
+NOT_CLOSED = (
+    "File too large (os error 27): the folder isn't closed: make room, and settle with --again before the header is used"
+)
 
 
 def logs_of(sites: list[Site]) -> list[bytes]:

@@ -17,8 +17,8 @@ The rows:
   transaction counts once its commit was answered, which is behind the sync of its record.
 - `site N deep, --no-sync`: the same without a sync.
 - `.., log 1`: the same over a log of version 1.
-- `raw 1 deep`: a plain program (`bench/plain/raw_log.rs`) that the same client drives: it appends a record of 16 bytes, syncs it
-  and answers.
+- `raw 1 deep`: a plain program (`bench/plain/raw_log.rs`) that the same client drives: it appends a record of 16 bytes,
+  syncs it and answers.
 - `postgres N clients`: an UPDATE of one row, prepared, with the bound as its condition; by pgbench, over a socket.
 - `redis N clients`: a script that tests the bound and lowers one key; by redis-benchmark, over a socket, `appendfsync
   always`. With `-P 64` each client has 64 of them under way.
