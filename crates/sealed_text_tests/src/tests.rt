@@ -1,0 +1,90 @@
+//! Worked texts. The sums were computed by `hashlib.sha256` of Python 3.
+
+use sealed_text::{TextFault, end_batch, is_batch, sum_line, unseal};
+use std::alloc::Global;
+use std::process::Abort;
+
+/// Three batches.
+const THREE: &[u8] = b"R 1
+sum 010d01fc6b401c5a
+C 1 1 0 -15
+sum 52abe69e9f67636a
+R 2
+C 2 1 1 7
+sum 3cb160532e51d83b
+";
+
+/// What the text holds are these records, in so many closed bytes.
+fn holds(alloc: Global, text: &[u8], records: &[u8], whole: usize, is_ended: bool) -> bool {
+    match unseal(alloc, text) {
+        Ok(held) => {
+            held.records.as_slice() == records && held.whole == whole && held.is_ended == is_ended
+        }
+        Err(_) => false,
+    }
+}
+
+/// What refuses the text, or None where it is read.
+fn fault_of(alloc: Global, text: &[u8]) -> Option<TextFault> {
+    unseal(alloc, text).err()
+}
+
+/// The fault of damage at this line.
+fn damaged_at(line: u64) -> Option<TextFault> {
+    Some(TextFault::Damaged { line })
+}
+
+#[test]
+fn a_line_tells_the_sum(rt: HostRuntime) {
+    assert_eq!(&rt; &sum_line(b"R 1\n"), b"sum 010d01fc6b401c5a\n");
+    assert_eq!(&rt; &sum_line(b""), b"sum e3b0c44298fc1c14\n");
+}
+
+#[test]
+fn a_batch_ends_in_a_line_feed(rt: HostRuntime) {
+    let answers = [
+        is_batch(b"AZ09 -\n\n"),
+        is_batch(b"\n"),
+        !is_batch(b""),
+        !is_batch(b"R 1"),
+        !is_batch(b"R 1\nR"),
+        !is_batch(b"R a\n"),
+        !is_batch(b"R 1.\n"),
+    ];
+    assert_eq!(&rt; answers, [true; 7]);
+}
+
+#[test]
+fn batches_are_read(rt: HostRuntime) {
+    let alloc = rt.alloc();
+    let records = b"R 1\nC 1 1 0 -15\nR 2\nC 2 1 1 7\n";
+    assert!(&rt; holds(alloc, b"", b"", 0, false));
+    assert!(&rt; holds(alloc, THREE, records, 93, false));
+    assert!(&rt; holds(alloc, &THREE[..25], b"R 1\n", 25, false));
+}
+
+#[test]
+fn a_stop_leaves_what_is_closed(rt: HostRuntime) {
+    let alloc = rt.alloc();
+    assert!(&rt; holds(alloc, &THREE[..28], b"R 1\n", 25, false));
+    assert!(&rt; holds(alloc, &THREE[..37], b"R 1\n", 25, false));
+    assert!(&rt; holds(alloc, &THREE[..38], b"R 1\n", 25, false));
+    assert!(&rt; holds(alloc, &THREE[..57], b"R 1\n", 25, false));
+}
+
+#[test]
+fn a_world_ends(rt: HostRuntime) {
+    let alloc = rt.alloc();
+    let ended = b"R 1\nsum 010d01fc6b401c5a\nX\nsum 7058299627365fc7\n";
+    assert_eq!(&rt; end_batch(), b"X\n".as_slice());
+    assert!(&rt; holds(alloc, ended, b"R 1\n", 48, true));
+    assert!(&rt; holds(alloc, &ended[25..], b"", 23, true));
+    assert!(&rt; holds(alloc, &ended[..47], b"R 1\n", 25, false));
+}
+
+#[test]
+fn nothing_stands_behind_an_end(rt: HostRuntime) {
+    let alloc = rt.alloc();
+    let behind = b"R 1\nsum 010d01fc6b401c5a\nX\nsum 7058299627365fc7\nR";
+    assert_eq!(&rt; fault_of(alloc, behind), damaged_at(3));
+}
