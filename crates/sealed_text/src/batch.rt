@@ -1,6 +1,7 @@
 //! Batches, and the lines that close them.
 
 ghost use Rattle.std.specs.Prelude.{◌≡◌, ◌↔◌, IsTrue};
+ghost use Rattle.std.specs.List.{AllPass};
 ghost use Rattle.sealed_text.specs.Seals.{IsBatch, is_batch_byte, sum_line, end_batch};
 
 use sha2::{Digest, Sha256};
@@ -35,7 +36,9 @@ fn is_batch_byte(byte: u8) -> bool
 }
 
 // Whether records are spelled with each of the bytes.
-pub(crate) fn are_batch_bytes(bytes: &[u8]) -> bool {
+pub(crate) fn are_batch_bytes(bytes: &[u8]) -> bool
+    ensures decides { IsTrue result ↔ AllPass is_batch_byte bytes.now }
+{
     bytes.iter().all(|byte| is_batch_byte(*byte))
 }
 
@@ -44,5 +47,8 @@ pub(crate) fn are_batch_bytes(bytes: &[u8]) -> bool {
 pub fn is_batch(bytes: &[u8]) -> bool
     ensures decides { IsTrue result ↔ IsBatch bytes.now }
 {
-    bytes.ends_with(b"\n") && are_batch_bytes(bytes)
+    match bytes.split_last() {
+        Some((b'\n', _)) => are_batch_bytes(bytes),
+        _ => false,
+    }
 }

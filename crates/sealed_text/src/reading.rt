@@ -1,7 +1,7 @@
 //! Texts of closed batches, read.
 
-ghost use Rattle.std.specs.Prelude.{◌≡◌, IfOk, IfErr};
-ghost use Rattle.sealed_text.specs.Seals.{Unseals, IsRefused};
+ghost use Rattle.std.specs.Prelude.{◌≡◌, ◌+◌, IfOk, IfErr};
+ghost use Rattle.sealed_text.specs.Seals.{Unseals, IsRefused, lines_of};
 
 use crate::fault::TextFault;
 use crate::rest::{Rest, rest_of};
@@ -20,7 +20,9 @@ pub struct Unsealed {
 }
 
 // The line that stands behind the bytes, the first one being 1.
-fn line_behind(bytes: &[u8]) -> u64 {
+fn line_behind(bytes: &[u8]) -> u64
+    ensures line { result ≡ 1 + lines_of bytes.now }
+{
     1 + bytes.iter().filter(|byte| **byte == b'\n').count() as u64
 }
 
@@ -35,12 +37,12 @@ pub fn unseal(alloc: Global, text: &[u8]) -> Result<Unsealed, TextFault>
     ensures err { IfErr result (IsRefused text.now) }
 {
     let mut records = Vec::with_capacity(alloc, text.len())?;
-    let mut whole = 0;
+    let mut rest = text;
     loop {
-        match rest_of(&text[whole..]) {
-            Rest::Records(len) => {
-                records.extend_from_slice(&text[whole..whole + len])?;
-                whole += len + SUM_LINE;
+        match rest_of(rest) {
+            Rest::Records(batch, behind) => {
+                records.extend_from_slice(batch)?;
+                rest = behind;
             }
             Rest::Ended => {
                 return Ok(Unsealed {
@@ -52,18 +54,15 @@ pub fn unseal(alloc: Global, text: &[u8]) -> Result<Unsealed, TextFault>
             Rest::Torn => {
                 return Ok(Unsealed {
                     records,
-                    whole,
+                    whole: text.len() - rest.len(),
                     is_ended: false,
                 });
             }
             Rest::Damaged => {
                 return Err(TextFault::Damaged {
-                    line: line_behind(&text[..whole]),
+                    line: line_behind(&text[..text.len() - rest.len()]),
                 });
             }
         }
     }
 }
-
-// The length of a line that closes a batch.
-const SUM_LINE: usize = 21;

@@ -1,0 +1,3 @@
+pub mod Cuts
+pub mod Taking
+pub mod Stops
