@@ -29,9 +29,66 @@ fn fault_of(alloc: Global, text: &[u8]) -> Option<TextFault> {
     unseal(alloc, text).err()
 }
 
+/// The text with the bits of the mask flipped in one byte.
+fn flipped(rt: &impl Abort, alloc: Global, text: &[u8], at: usize, mask: u8) -> Vec<u8> {
+    let mut copy = Vec::from_slice(alloc, text).expect(rt, "memory");
+    if let Some(byte) = copy.get_mut(at) {
+        *byte ^= mask;
+    }
+    copy
+}
+
+/// The text with one byte left out.
+fn without(rt: &impl Abort, alloc: Global, text: &[u8], at: usize) -> Vec<u8> {
+    let mut copy = Vec::from_slice(alloc, text).expect(rt, "memory");
+    if at < copy.len() {
+        copy.remove(at);
+    }
+    copy
+}
+
+/// The line at which the batch of this byte of the three begins.
+fn line_of(at: usize) -> u64 {
+    match at {
+        0..25 => 1,
+        25..58 => 3,
+        _ => 5,
+    }
+}
+
 /// The fault of damage at this line.
 fn damaged_at(line: u64) -> Option<TextFault> {
     Some(TextFault::Damaged { line })
+}
+
+/// Each bit of one byte of the three batches, flipped, is damage from its batch on.
+fn assert_bits_are_seen(rt: &impl Abort, alloc: Global, at: usize) {
+    for mask in [1, 2, 4, 8, 16, 32, 64, 128] {
+        let text = flipped(rt, alloc, THREE, at, mask);
+        assert_eq!(rt;
+            fault_of(alloc, &text),
+            damaged_at(line_of(at)),
+            "{at} {mask}"
+        );
+    }
+}
+
+#[test]
+fn each_flipped_bit_is_damage(rt: HostRuntime) {
+    for at in 0..93 {
+        assert_bits_are_seen(&rt, rt.alloc(), at);
+    }
+}
+
+#[test]
+fn each_byte_left_out_is_damage(rt: HostRuntime) {
+    let alloc = rt.alloc();
+    for at in 0..92 {
+        let text = without(&rt, alloc, THREE, at);
+        assert_eq!(&rt; fault_of(alloc, &text), damaged_at(line_of(at)), "{at}");
+    }
+    let text = without(&rt, alloc, THREE, 92);
+    assert!(&rt; holds(alloc, &text, b"R 1\nC 1 1 0 -15\n", 58, false));
 }
 
 #[test]
@@ -73,6 +130,22 @@ fn a_stop_leaves_what_is_closed(rt: HostRuntime) {
 }
 
 #[test]
+fn what_no_stop_leaves_is_damage(rt: HostRuntime) {
+    let alloc = rt.alloc();
+    let faults = [
+        fault_of(alloc, b"R 1\nsum 010d01fc6b401c5a\nR 2.\n"),
+        fault_of(alloc, b"R 1\nsum 010d01fc6b401c5a\nR 2sum"),
+        fault_of(alloc, b"R 1\nsum 010d01fc6b401c5a\nR 2\nsum 3"),
+        fault_of(alloc, b"R 1\nsum 010d01fc6b401c5a\nsum"),
+        fault_of(alloc, b"sum e3b0c44298fc1c14\n"),
+        fault_of(alloc, b"R 1\nsum 010d01fc6b401c5ax"),
+    ];
+    let third = damaged_at(3);
+    let first = damaged_at(1);
+    assert_eq!(&rt; faults, [third, third, third, third, first, first]);
+}
+
+#[test]
 fn a_world_ends(rt: HostRuntime) {
     let alloc = rt.alloc();
     let ended = b"R 1\nsum 010d01fc6b401c5a\nX\nsum 7058299627365fc7\n";
@@ -87,4 +160,6 @@ fn nothing_stands_behind_an_end(rt: HostRuntime) {
     let alloc = rt.alloc();
     let behind = b"R 1\nsum 010d01fc6b401c5a\nX\nsum 7058299627365fc7\nR";
     assert_eq!(&rt; fault_of(alloc, behind), damaged_at(3));
+    let twice = b"X\nsum 7058299627365fc7\nX\nsum 7058299627365fc7\n";
+    assert_eq!(&rt; fault_of(alloc, twice), damaged_at(1));
 }
