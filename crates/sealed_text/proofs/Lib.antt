@@ -1,3 +1,4 @@
 pub mod Cuts
 pub mod Taking
 pub mod Stops
+pub mod Damage

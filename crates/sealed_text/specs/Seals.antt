@@ -1,5 +1,5 @@
 -- Texts of batches that sums close (this project).
-use Rattle.std.specs.Prelude.{◌≡◌, ◌≢◌, ◌<◌, ◌+◌, ◌==◌, ◌&&◌, ◌||◌, nat_le, ℕ, Bool, true, false, List, [], ◌∷◌, ◌++◌, length, take, All, codes, count_by}
+use Rattle.std.specs.Prelude.{◌≡◌, ◌≢◌, ◌<◌, ◌+◌, ◌==◌, ◌&&◌, ◌||◌, nat_le, ℕ, Bool, true, false, List, [], ◌∷◌, ◌++◌, length, take, All, codes, count_by, slice_index, slice_set}
 use Rattle.std.specs.List.{AllPass, concat}
 use Rattle.hex.specs.Hex.{encode_lower}
 use Rattle.sha2.specs.Sha256.{sha256}
@@ -109,3 +109,11 @@ pub record LeavesFront (batches : List (List ℕ)) (front : List ℕ) : Type 0 w
   pub torn : List ℕ
   pub text_is : front ≡ sealed_text (take count batches) ++ torn
   pub is_torn : IsTorn torn
+
+-- The bytes were changed in one byte: at this place it was another one.
+pub record ChangesByte (before after : List ℕ) : Type 0 where
+  pub place : ℕ
+  pub byte : ℕ
+  pub within : place < length before
+  pub other : byte ≢ slice_index before place
+  pub after_is : after ≡ slice_set before place byte

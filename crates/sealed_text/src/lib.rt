@@ -10,5 +10,5 @@ mod rest;
 
 pub use batch::{end_batch, is_batch, sum_line};
 pub use fault::TextFault;
-pub use laws::{a_stop_leaves_a_front, no_two_lists_have_one_text};
+pub use laws::{a_changed_byte_is_damage, a_stop_leaves_a_front, no_two_lists_have_one_text};
 pub use reading::{Unsealed, unseal};

@@ -48,13 +48,10 @@ fn closed<'a>(batch: &'a [u8], rest: &'a [u8]) -> Rest<'a>
     requires batch { IsBatch batch.now }
     ensures rest { IsRest (batch.now ++ (sum_line batch.now ++ rest.now)) result }
 {
-    if batch != end_batch() {
-        return Rest::Records(batch, rest);
-    }
-    if rest.is_empty() {
-        Rest::Ended
-    } else {
-        Rest::Damaged
+    match (batch == end_batch(), rest.is_empty()) {
+        (false, _) => Rest::Records(batch, rest),
+        (true, true) => Rest::Ended,
+        (true, false) => Rest::Damaged,
     }
 }
 
