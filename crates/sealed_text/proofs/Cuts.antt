@@ -145,7 +145,8 @@ torn_cut a behind clear first torn =
     let more = drop (length (a ++ behind)) (sealed_batch torn.batch) in
     let whole : a ++ (behind ++ more) ≡ sealed_batch torn.batch = sym (append_assoc a behind more) ∙ torn_more (a ++ behind) torn in
     let with_s : BeginsWithS (behind ++ more) = record { more = first.more ++ more; is = ap (λ (l : List ℕ). l ++ more) first.is } in
-    let same = closed_cut a (behind ++ more) torn.batch [] clear with_s torn.is_batch (whole ∙ sym (append-nil (sealed_batch torn.batch))) in
+    let same = closed_cut a (behind ++ more) torn.batch [] clear with_s torn.is_batch
+    (whole ∙ sym (append-nil (sealed_batch torn.batch))) in
     record {
       is_batch = subst IsBatch (sym same.front) torn.is_batch;
       more = more;
@@ -168,7 +169,8 @@ torn_letters a all =
 pub end_is_batch : IsBatch end_batch
 unfolding is_batch_byte
 end_is_batch = record {
-  letters = All-cons (λ b. is_batch_byte b ≡ true) 88 (10 ∷ []) refl (All-cons (λ b. is_batch_byte b ≡ true) 10 [] refl (All-nil (λ b. is_batch_byte b ≡ true)));
+  letters = All-cons (λ b. is_batch_byte b ≡ true) 88 (10 ∷ []) refl
+      (All-cons (λ b. is_batch_byte b ≡ true) 10 [] refl (All-nil (λ b. is_batch_byte b ≡ true)));
   last = record { before = 88 ∷ []; ends = refl };
 }
 
@@ -229,7 +231,8 @@ closed_not_torn a rest batch torn =
 pub damaged_end : (a rest : List ℕ) → a ≡ end_batch → rest ≢ [] → IsDamaged (a ++ (sum_line a ++ rest))
 damaged_end a rest end some =
     let batch : IsBatch a = subst IsBatch (sym end) end_is_batch in
-    let cut : (b more : List ℕ) → IsBatch b → a ++ (sum_line a ++ rest) ≡ sealed_batch b ++ more → Same a b (sum_line a ++ rest) (sum_line a ++ more) =
+    let cut : (b more : List ℕ) → IsBatch b → a ++ (sum_line a ++ rest) ≡ sealed_batch b ++ more
+    → Same a b (sum_line a ++ rest) (sum_line a ++ more) =
     λ b more other is. closed_cut a (sum_line a ++ rest) b more (batch_clear a batch) (line_begins a rest) other is in
     record {
       no_end = λ is. some (append_cancel_left (sum_line a) rest [] (cut end_batch [] end_is_batch (end_closed _ is)).behind);

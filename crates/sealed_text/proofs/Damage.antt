@@ -108,12 +108,14 @@ set_in_batch b t c v k byte batch less other sums closed is =
       | inl same ↦
           let cut : slice_set b k byte ≡ take k b ++ 115 ∷ drop (suc k) b = ap (slice_set b k) same ∙ set_split b k 115 less in
           let whole : take k b ++ 115 ∷ (drop (suc k) b ++ (sum_line b ++ t)) ≡ sealed_batch c ++ v =
-          sym (append_assoc (take k b) (115 ∷ drop (suc k) b) (sum_line b ++ t)) ∙ ap (λ (l : List ℕ). l ++ (sum_line b ++ t)) (sym cut) ∙ is in
+          sym (append_assoc (take k b) (115 ∷ drop (suc k) b) (sum_line b ++ t))
+          ∙ ap (λ (l : List ℕ). l ++ (sum_line b ++ t)) (sym cut) ∙ is in
           s_in_batch (take k b) (drop (suc k) b) _ c v (All-take (λ b. b ≢ 115) k b (batch_clear b batch))
           (All-drop (λ b. is_batch_byte b ≡ true) (suc k) b batch.letters) closed whole
       | inr not ↦
           let clear : IsClear (slice_set b k byte) = All-set (λ b. b ≢ 115) b k byte not (batch_clear b batch) in
-          let changes : ChangesByte b (slice_set b k byte) = record { place = k; byte = byte; within = less; other = other; after_is = refl } in
+          let changes : ChangesByte b (slice_set b k byte) =
+          record { place = k; byte = byte; within = less; other = other; after_is = refl } in
           sums (slice_set b k byte) changes (in_batch b (slice_set b k byte) t c v clear closed is)
     ]
 
@@ -138,7 +140,8 @@ no_seal b t c v k byte batch less other sums closed is =
           set_in_line b t c v (k - length b) byte batch within (λ e. other (e ∙ sym read)) closed (sym here ∙ is)
     ]
 
-changed_damaged : (b changed rest : List ℕ) → IsBatch b → ChangesByte (sealed_batch b) changed → HasOtherSums b → IsDamaged (changed ++ rest)
+changed_damaged : (b changed rest : List ℕ) → IsBatch b → ChangesByte (sealed_batch b) changed → HasOtherSums b
+    → IsDamaged (changed ++ rest)
 changed_damaged b changed rest batch change sums =
     let none : (c t v : List ℕ) → IsBatch c → changed ++ t ≢ sealed_batch c ++ v =
     λ c t v closed is. no_seal b t c v change.place change.byte batch change.within change.other sums closed
@@ -151,8 +154,8 @@ changed_damaged b changed rest batch change sums =
       not_closed = λ c more records is. none c rest more records.batch is;
     }
 
-pub changed_byte : (batches : List (List ℕ)) (b changed rest : List ℕ) → All IsRecords batches → IsBatch b → ChangesByte (sealed_batch b) changed
-    → HasOtherSums b → IsDamagedAt (sealed_text batches ++ (changed ++ rest)) (1 + lines_of (sealed_text batches))
+pub changed_byte : (batches : List (List ℕ)) (b changed rest : List ℕ) → All IsRecords batches → IsBatch b
+    → ChangesByte (sealed_batch b) changed → HasOtherSums b → IsDamagedAt (sealed_text batches ++ (changed ++ rest)) (1 + lines_of (sealed_text batches))
 changed_byte batches b changed rest all batch change sums = record {
   batches = batches;
   rest = changed ++ rest;

@@ -32,7 +32,8 @@ one_list [] (c ∷ cs) r s d e all every end other is =
 one_list (b ∷ bs) [] r s d e all every end other is =
     absurd (no_end_begins e s b (sealed_text bs ++ r) other (All-head IsRecords b bs all) (sym is ∙ more_behind b bs r))
 one_list (b ∷ bs) (c ∷ cs) r s d e all every end other is =
-    let first = same_first b c (sealed_text bs ++ r) (sealed_text cs ++ s) (All-head IsRecords b bs all).batch (All-head IsRecords c cs every).batch
+    let first = same_first b c (sealed_text bs ++ r) (sealed_text cs ++ s) (All-head IsRecords b bs all).batch
+    (All-head IsRecords c cs every).batch
     (sym (more_behind b bs r) ∙ is ∙ more_behind c cs s) in
     let rest = one_list bs cs r s d e (All-tail IsRecords b bs all) (All-tail IsRecords c cs every) end other first.1 in
     (ap (λ (l : List ℕ). l ∷ bs) first.0 ∙ ap (λ (l : List (List ℕ)). c ∷ l) rest.0, rest.1)

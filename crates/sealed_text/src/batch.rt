@@ -9,8 +9,9 @@ use sha2::{Digest, Sha256};
 // How many bytes of a SHA-256 are told: 64 bits.
 const SUM_BYTES: usize = 8;
 
-/// The line that closes a batch: `sum `, the first 64 bits of the SHA-256 of the batch (FIPS 180-4) as
-/// 16 hexadecimal digits of lower case, and a line feed. Costs a pass over the batch, and no memory.
+/// The line that closes a batch: `sum `, the first 64 bits of the SHA-256 of the batch (FIPS 180-4)
+/// as 16 hexadecimal digits of lower case, and a line feed. Costs a pass over the batch, and no
+/// memory.
 pub fn sum_line(batch: &[u8]) -> [u8; 21]
     ensures line { result ≡ sum_line batch.now }
 {
@@ -42,8 +43,8 @@ pub(crate) fn are_batch_bytes(bytes: &[u8]) -> bool
     bytes.iter().all(|byte| is_batch_byte(*byte))
 }
 
-/// Whether the bytes are a batch: one or more bytes, each of `A-Z`, `0-9`, space, `-` and line feed, of
-/// which the last one is a line feed. Costs a pass over the bytes.
+/// Whether the bytes are a batch: one or more bytes, each of `A-Z`, `0-9`, space, `-` and line feed,
+/// of which the last one is a line feed. Costs a pass over the bytes.
 pub fn is_batch(bytes: &[u8]) -> bool
     ensures decides { IsTrue result ↔ IsBatch bytes.now }
 {

@@ -28,8 +28,8 @@ fn line_behind(bytes: &[u8]) -> u64
 
 /// The records of a text of closed batches, and how much of it is closed.
 ///
-/// Behind the last closed batch may stand the front of another one with its sum, as a stop leaves it,
-/// or the end of the world alone. The fault is `Damaged` where anything else stands there, so too
+/// Behind the last closed batch may stand the front of another one with its sum, as a stop leaves
+/// it, or the end of the world alone. The fault is `Damaged` where anything else stands there, so too
 /// where a sum isn't that of its batch, with the line at which that begins; `NoMemory` can come in
 /// place of any answer. Costs a SHA-256 over the text, and memory of the length of the text.
 pub fn unseal(alloc: Global, text: &[u8]) -> Result<Unsealed, TextFault>
