@@ -1,0 +1,107 @@
+-- A log in the batches of a file that sums close, as its callers see it (this project).
+use Rattle.std.specs.Prelude.{◌≡◌, ◌≢◌, ◌≤◌, ◌<◌, ◌+◌, ◌==◌, ℕ, List, [], ◌∷◌, ◌++◌, length, take, All, ⊤, Bool, true, false, Option, None, Some, option_map, Result, OnErr}
+use Rattle.std.specs.List.{concat}
+use Rattle.std.specs.Io.KnownBytes.{append_known}
+use Rattle.file_medium.specs.Copies.{IsFrontOf}
+use Rattle.sealed_text.specs.Seals.{IsBatch, IsRecords, IsTorn, BeginsWith, Unseals, IsDamagedAt, sealed_batch, sealed_text, closed_text}
+use Rattle.sealed_text.specs.declared.reading.Unsealed.{Unsealed}
+use Rattle.sealed_log.specs.declared.fault.SealFault.{SealFault}
+use Rattle.sealed_log.specs.declared.fault.SealFault.TheVariants.{Damaged, Ended, Device, NoMemory}
+
+-- The log as its callers see it: the records of the closed batches and of the open one, and those that are safe, each where they
+-- are known; how many bytes of records are closed; the open batch; whether a sync has failed; whether the world was ended; and
+-- what the file holds, and what of it is safe, where they are known.
+pub record SealedBatches : Type 0 where
+  pub bytes : Option (List ℕ)
+  pub safe : Option (List ℕ)
+  pub closed : ℕ
+  pub batch : List ℕ
+  pub is_lost : Bool
+  pub is_ended : Bool
+  pub file : Option (List ℕ)
+  pub file_safe : Option (List ℕ)
+
+-- A text without its sum lines: from each `s` (115) on the next 21 bytes are left out. So many bytes are left out before.
+abbrev pub leaving_out : ℕ → List ℕ → List ℕ
+leaving_out count [] = []
+leaving_out zero (b ∷ bs) = if b == 115 then leaving_out 20 bs else b ∷ leaving_out zero bs
+leaving_out (suc count) (b ∷ bs) = leaving_out count bs
+
+-- The known bytes without their sum lines, of which so many are of records: what stands behind them is the end of the world.
+abbrev pub closed_of : ℕ → Option (List ℕ) → Option (List ℕ)
+closed_of closed known = option_map (λ text. take closed (leaving_out 0 text)) known
+
+-- The text is that of closed batches, of which the records have so many bytes; behind them stands the end of the world where it
+-- was ended.
+pub record IsClosed (closed : ℕ) (is_ended : Bool) (text : List ℕ) : Type 0 where
+  pub batches : List (List ℕ)
+  pub records : All IsRecords batches
+  pub text_is : text ≡ closed_text is_ended batches
+  pub closed_is : closed ≡ length (concat batches)
+
+-- The bytes are closed so, where they are known.
+abbrev pub AreClosed : ℕ → Bool → Option (List ℕ) → Type 0
+AreClosed closed is_ended None = ⊤
+AreClosed closed is_ended (Some text) = IsClosed closed is_ended text
+
+-- The open batch: nothing yet, or whole lines.
+abbrev pub IsOpen : List ℕ → Type 0
+IsOpen batch = (batch ≡ []) ⊎ IsBatch batch
+
+-- What holds of every log: the safe bytes of the file are closed, and are all that it holds unless a sync has failed; the records
+-- that are kept in memory are the first ones; the open batch has whole lines, and room for the line that closes it.
+pub record IsSealed (closed : ℕ) (is_lost is_ended : Bool) (file safe : Option (List ℕ)) (records batch : List ℕ) (room : ℕ)
+    : Type 0 where
+  pub is_closed : AreClosed closed is_ended safe
+  pub is_safe : is_lost ≡ false → file ≡ safe
+  pub few : length records ≤ closed
+  pub front : IsFrontOf (closed_of closed safe) records
+  pub whole : IsOpen batch
+  pub has_room : 0 < length batch → length batch + 21 ≤ room
+
+-- The file held closed batches and what a stop leaves; now it holds the closed ones alone, of which these are the records.
+pub record CutsTorn (text : List ℕ) (file bytes : Option (List ℕ)) : Type 0 where
+  pub batches : List (List ℕ)
+  pub torn : List ℕ
+  pub begins : BeginsWith text batches torn
+  pub is_torn : IsTorn torn
+  pub file_is : file ≡ Some (sealed_text batches)
+  pub bytes_are : bytes ≡ Some (concat batches)
+
+-- What a stop leaves was cut off so, where the bytes of the file are known.
+abbrev pub Closes : Option (List ℕ) → Option (List ℕ) → List ℕ → Type 0
+Closes None file records = file ≡ None
+Closes (Some text) file records = CutsTorn text file (Some records)
+
+-- The log was opened so, where the bytes of the file are known.
+abbrev pub Opens : Option (List ℕ) → SealedBatches → Type 0
+Opens None log = (log.file ≡ None) × (log.bytes ≡ None)
+Opens (Some text) log = CutsTorn text log.file log.bytes
+
+-- The text is that of a world that was ended.
+pub record IsEnded (text : List ℕ) : Type 0 where
+  pub unsealed : Unsealed
+  pub unseals : Unseals text unsealed
+  pub ended : unsealed.is_ended ≡ true
+
+-- Why a log isn't opened. Of a call of the file that failed, and of want of memory, nothing can be said.
+abbrev pub IsRefusedFor : List ℕ → SealFault → Type 0
+IsRefusedFor text (Damaged line) = IsDamagedAt text line
+IsRefusedFor text Ended = IsEnded text
+IsRefusedFor text Device = ⊤
+IsRefusedFor text NoMemory = ⊤
+
+-- The log isn't opened for that, where the bytes of the file are known.
+abbrev pub Refuses : Option (List ℕ) → SealFault → Type 0
+Refuses None fault = ⊤
+Refuses (Some text) fault = IsRefusedFor text fault
+
+-- A text that keeps all that sums close in another one: each closed batch of that is at its place.
+pub record KeepsClosed (old new : List ℕ) : Type 0 where
+  pub keeps : (batches : List (List ℕ)) (rest : List ℕ) → All IsRecords batches → old ≡ sealed_text batches ++ rest
+      → (tail : List ℕ) × (new ≡ sealed_text batches ++ tail)
+
+-- What was added to a file for a batch: nothing for none, and else the batch and the line that closes it.
+abbrev pub sealed_open : List ℕ → List ℕ
+sealed_open [] = []
+sealed_open (b ∷ bs) = sealed_batch (b ∷ bs)

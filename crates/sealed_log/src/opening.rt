@@ -1,0 +1,51 @@
+//! What a file holds when it is opened.
+
+ghost use Rattle.std.specs.Prelude.{◌≡◌, ◌≤◌, length, IfOk, IfErr, OnOk};
+ghost use Rattle.file_medium.specs.Copies.{IsCopyOf};
+ghost use Rattle.file_medium.specs.Files.{cut_known};
+ghost use Rattle.sealed_log.specs.Sealed.{Closes, Refuses};
+
+use crate::fault::SealFault;
+use file_medium::{FileFailed, LogFile, read_whole};
+use kept_records::MediumFault;
+use sealed_text::{TextFault, Unsealed, unseal};
+use std::alloc::Global;
+
+/// Cuts off what stands behind the closed batches, where something does, and makes that safe.
+fn cut_torn<F: LogFile>(file: &mut F, text: &[u8], whole: usize) -> Result<(), FileFailed>
+    requires copy { IsCopyOf (F.bytes file.old) text.now }
+    requires safe { F.safe file.old ≡ F.bytes file.old }
+    requires within { whole ≤ length text.now }
+    ensures cut { OnOk result (F.bytes file.new ≡ cut_known whole (F.bytes file.old)) }
+    ensures safe { OnOk result (F.safe file.new ≡ F.bytes file.new) }
+{
+    if whole < text.len() {
+        file.cut(whole as u64)?;
+        file.sync()?;
+    }
+    Ok(())
+}
+
+/// Syncs a file, reads it whole, and cuts off what a stop has left behind its closed batches.
+pub(crate) fn read_closed<F: LogFile>(alloc: Global, file: &mut F) -> Result<Unsealed, SealFault>
+    ensures ok { IfOk result (λ u. Closes (F.bytes file.old) (F.bytes file.new) u.records.items) }
+    ensures safe { OnOk result (F.safe file.new ≡ F.bytes file.new) }
+    ensures err { IfErr result (Refuses (F.bytes file.old)) }
+{
+    file.sync()?;
+    let text = match read_whole(alloc, file) {
+        Ok(text) => text,
+        Err(MediumFault::Device) => return Err(SealFault::Device),
+        Err(MediumFault::NoMemory) => return Err(SealFault::NoMemory),
+    };
+    let unsealed = match unseal(alloc, text.as_slice()) {
+        Ok(unsealed) => unsealed,
+        Err(TextFault::Damaged { line }) => return Err(SealFault::Damaged { line }),
+        Err(TextFault::NoMemory) => return Err(SealFault::NoMemory),
+    };
+    if unsealed.is_ended {
+        return Err(SealFault::Ended);
+    }
+    cut_torn(file, text.as_slice(), unsealed.whole)?;
+    Ok(unsealed)
+}

@@ -1,0 +1,261 @@
+//! The log of closed batches.
+
+ghost use Rattle.std.specs.Prelude.{◌≡◌, ◌≢◌, ◌-◌, ◌≤◌, ◌++◌, [], None, false, true, length, take, IfOk, IfErr, OnOk, OnErr};
+ghost use Rattle.std.specs.Io.KnownBytes.{append_known};
+ghost use Rattle.file_medium.specs.Files.{cut_known};
+ghost use Rattle.sealed_text.specs.Seals.{IsBatch, end_batch, sealed_batch};
+ghost use Rattle.sealed_log.specs.Sealed.{Opens, Refuses, IsOpen, sealed_open};
+
+use crate::adding::{SUM_LINE, add_piece, add_sealed, are_lines};
+use crate::fault::SealFault;
+use crate::opening::read_closed;
+use crate::reading::copy_behind;
+use file_medium::{FileFailed, LogFile};
+use sealed_text::{end_batch, is_batch};
+use std::alloc::Global;
+use std::marker::Model;
+
+/// A file of batches that sums close, as a file that holds their records. It keeps the law of
+/// `LogFile` wherever the file does.
+///
+/// What is written is added to an open batch in memory. A sync closes it: it writes the batch and its
+/// sum behind the bytes of the file, by one write where the file takes them whole, and syncs the
+/// file. So a batch is there whole after a stop, or not at all. Only whole lines are written, of the
+/// bytes that records are spelled with, and only what isn't closed is cut.
+///
+/// A write of the file that falls short, or a sync of it that fails, is never forgotten: nothing is
+/// known of the file's bytes then, so each later call fails. Once the world was ended each call fails
+/// but a read.
+///
+/// The records that were there at the opening are kept in memory until a read has come to their end;
+/// from there on only the open batch can be read, and a read in front of it fails. Contracts see the
+/// records, those that are safe, how many bytes of them are closed, the open batch, whether a call of
+/// the file has failed, whether the world was ended, and what the file holds and what of it is safe.
+/// Costs memory for the greatest batch, and until they were read for the records. Source: this
+/// project.
+#[derive(Drop)]
+pub struct SealedLog<F: LogFile> {
+    alloc: Global,
+    file: F,
+    // The first records, as long as they are kept.
+    records: Vec<u8>,
+    // How many bytes of records are closed.
+    closed: u64,
+    batch: Vec<u8>,
+    is_lost: bool,
+    is_ended: bool,
+}
+
+impl<F: LogFile> Model for SealedLog<F> {
+    ghost use Rattle.std.specs.Prelude.{vec_capacity};
+    ghost use Rattle.std.specs.Io.KnownBytes.{append_known};
+    ghost use Rattle.sealed_log.specs.Sealed.{SealedBatches, closed_of, IsSealed};
+
+    ghost Value = { SealedBatches };
+
+    ghost view = { λ l. record {
+      bytes = append_known (closed_of l.closed (F.bytes l.file)) l.batch.items;
+      safe = closed_of l.closed (F.safe l.file);
+      closed = l.closed;
+      batch = l.batch.items;
+      is_lost = l.is_lost;
+      is_ended = l.is_ended;
+      file = F.bytes l.file;
+      file_safe = F.safe l.file;
+    } };
+
+    ghost invariant = { λ l. IsSealed l.closed l.is_lost l.is_ended (F.bytes l.file)
+        (F.safe l.file) l.records.items l.batch.items (vec_capacity l.batch) };
+}
+
+impl<F: LogFile + Drop> SealedLog<F> {
+    /// The log in a file of closed batches. The file is synced first, so that all of it is safe, and
+    /// read whole; what a stop has left behind the closed batches is cut off, and that is synced too.
+    ///
+    /// The faults: `Damaged`, where the file holds what was neither written so nor left so by a stop,
+    /// with the line at which that begins; `Ended`, where the world was ended; `Device`, where a call
+    /// of the file failed; `NoMemory`, where memory is wanting. Each lets go of the file, and takes
+    /// nothing of it that a sum closes. Costs one or two syncs, a read of the file and a SHA-256 over
+    /// it, and memory for the file twice, of which that for the records is kept.
+    pub fn open(alloc: Global, file: F) -> Result<SealedLog<F>, SealFault>
+        ensures opens { IfOk result (Opens (F.bytes file)) }
+        ensures safe { IfOk result (λ log. log.safe ≡ log.bytes) }
+        ensures file_safe { IfOk result (λ log. log.file_safe ≡ log.file) }
+        ensures batch { IfOk result (λ log. log.batch ≡ []) }
+        ensures sound { IfOk result (λ log. log.is_lost ≡ false) }
+        ensures going_on { IfOk result (λ log. log.is_ended ≡ false) }
+        ensures err { IfErr result (Refuses (F.bytes file)) }
+    {
+        let mut file = file;
+        let records = read_closed(alloc, &mut file)?.records;
+        Ok(SealedLog {
+            alloc,
+            file,
+            closed: records.len() as u64,
+            records,
+            batch: Vec::new(alloc),
+            is_lost: false,
+            is_ended: false,
+        })
+    }
+}
+
+impl<F: LogFile> SealedLog<F> {
+    /// Ends the world: writes the batch that tells so, with its sum, and syncs the file. From there on
+    /// each call fails but a read, and no opening takes the file any more. Fails where a batch is
+    /// open, where memory is wanting, where a call of the file has failed, or the world was ended
+    /// before: then nothing has changed. Where the write falls short or the sync fails the log is
+    /// lost. Costs a write and a sync.
+    pub fn end(&mut self) -> Result<(), FileFailed>
+        ensures ok { OnOk result (self.new ≡ record self.old {
+          is_ended = true;
+          file = append_known self.old.file (sealed_batch end_batch);
+          file_safe = self.new.file;
+        }) }
+        ensures nothing_open { OnOk result (self.old.batch ≡ []) }
+        ensures sound { OnOk result (self.old.is_lost ≡ false) }
+        ensures once { OnOk result (self.old.is_ended ≡ false) }
+        ensures safe { OnErr result (self.new.safe ≡ self.old.safe) }
+        ensures file_safe { OnErr result (self.new.file_safe ≡ self.old.file_safe) }
+        ensures err { OnErr result (self.new.is_lost ≡ false → self.new ≡ self.old) }
+        ensures lost { self.old.is_lost ≡ true → self.new ≡ self.old }
+    {
+        if self.is_lost || self.is_ended || !self.batch.is_empty() {
+            return Err(FileFailed);
+        }
+        add_piece(&mut self.batch, end_batch())?;
+        match add_sealed(&mut self.file, &mut self.batch) {
+            Ok(()) => {
+                self.is_ended = true;
+                Ok(())
+            }
+            Err(FileFailed) => {
+                self.is_lost = true;
+                Err(FileFailed)
+            }
+        }
+    }
+
+    /// Whether a call of the file has failed. Costs no memory.
+    pub fn is_lost(&self) -> bool
+        ensures value { result ≡ self.now.is_lost }
+    {
+        self.is_lost
+    }
+
+    /// The file. Costs no memory.
+    pub fn file(&self) -> &F
+        ensures bytes { F.bytes result.now ≡ self.now.file }
+        ensures safe { F.safe result.now ≡ self.now.file_safe }
+    {
+        &self.file
+    }
+}
+
+impl<F: LogFile> LogFile for SealedLog<F> {
+    ghost bytes = { λ l. l.bytes };
+
+    ghost safe = { λ l. l.safe };
+
+    fn read_at(&mut self, at: u64, buffer: &mut [u8]) -> Result<usize, FileFailed>
+        ensures same { self.new ≡ self.old }
+    {
+        if self.is_lost {
+            return Err(FileFailed);
+        }
+        if at >= self.closed {
+            return Ok(copy_behind(&self.batch, at - self.closed, buffer));
+        }
+        if at >= self.records.len() as u64 {
+            return Err(FileFailed);
+        }
+        let count = copy_behind(&self.records, at, buffer);
+        if at + count as u64 == self.records.len() as u64 {
+            self.records = Vec::new(self.alloc);
+        }
+        Ok(count)
+    }
+
+    /// Adds the piece to the open batch. Fails where it isn't whole lines of the bytes that records
+    /// are spelled with, where memory is wanting, or the log is lost or ended.
+    fn write(&mut self, piece: &[u8]) -> Result<usize, FileFailed>
+        ensures ok { IfOk result (λ n. n ≡ length piece.now) }
+        ensures added { OnOk result (self.new ≡ record self.old {
+          bytes = append_known self.old.bytes piece.now;
+          batch = self.old.batch ++ piece.now;
+        }) }
+        ensures lines { OnOk result (IsBatch piece.now) }
+        ensures sound { OnOk result (self.old.is_lost ≡ false) }
+        ensures going_on { OnOk result (self.old.is_ended ≡ false) }
+        ensures err { OnErr result (self.new ≡ self.old) }
+    {
+        if self.is_lost || self.is_ended || !is_batch(piece) {
+            return Err(FileFailed);
+        }
+        add_piece(&mut self.batch, piece)?;
+        Ok(piece.len())
+    }
+
+    /// Cuts the open batch behind one of its lines, or in front of the first one. Fails where the
+    /// place isn't so, or the log is lost or ended.
+    fn cut(&mut self, kept: u64) -> Result<(), FileFailed>
+        ensures ok { OnOk result (self.new ≡ record self.old {
+          bytes = cut_known kept self.old.bytes;
+          batch = take (kept - self.old.closed) self.old.batch;
+        }) }
+        ensures behind { OnOk result (self.old.closed ≤ kept) }
+        ensures lines { OnOk result (IsOpen self.new.batch) }
+        ensures sound { OnOk result (self.old.is_lost ≡ false) }
+        ensures going_on { OnOk result (self.old.is_ended ≡ false) }
+        ensures err { OnErr result (self.new ≡ self.old) }
+    {
+        if self.is_lost || self.is_ended || kept < self.closed {
+            return Err(FileFailed);
+        }
+        let kept = (kept - self.closed) as usize;
+        if !are_lines(&self.batch, kept) {
+            return Err(FileFailed);
+        }
+        self.batch.truncate(kept);
+        Ok(())
+    }
+
+    /// Closes the open batch, and changes nothing where none is open. Fails where the batch is the one
+    /// that ends a world, which `end` alone writes, or the log is lost or ended; and where the write
+    /// falls short or the sync fails: then the log is lost.
+    fn sync(&mut self) -> Result<(), FileFailed>
+        ensures file { OnOk result (self.new.file
+            ≡ append_known self.old.file (sealed_open self.old.batch)) }
+        ensures file_safe { OnOk result (self.new.file_safe ≡ self.new.file) }
+        ensures none_open { OnOk result (self.new.batch ≡ []) }
+        ensures records { OnOk result (self.old.batch ≢ end_batch) }
+        ensures sound { OnOk result (self.old.is_lost ≡ false) }
+        ensures still_sound { OnOk result (self.new.is_lost ≡ false) }
+        ensures going_on { OnOk result (self.old.is_ended ≡ false) }
+        ensures still_going_on { OnOk result (self.new.is_ended ≡ false) }
+        ensures file_err { OnErr result (self.new.file_safe ≡ self.old.file_safe) }
+        ensures unchanged { OnErr result (self.new.is_lost ≡ false → self.new ≡ self.old) }
+        ensures lost { self.old.is_lost ≡ true → self.new ≡ self.old }
+    {
+        if self.is_lost || self.is_ended || self.batch.as_slice() == end_batch() {
+            return Err(FileFailed);
+        }
+        if self.batch.is_empty() {
+            return Ok(());
+        }
+        let closed = match self.closed.checked_add(self.batch.len() as u64) {
+            Some(closed) => closed,
+            None => return Err(FileFailed),
+        };
+        match add_sealed(&mut self.file, &mut self.batch) {
+            Ok(()) => {
+                self.closed = closed;
+                Ok(())
+            }
+            Err(FileFailed) => {
+                self.is_lost = true;
+                Err(FileFailed)
+            }
+        }
+    }
+}
