@@ -1,1 +1,3 @@
-pub mod Sealing
+pub mod Leaving
+pub mod Closing
+pub mod Readings

@@ -1,5 +1,5 @@
 -- A log in the batches of a file that sums close, as its callers see it (this project).
-use Rattle.std.specs.Prelude.{◌≡◌, ◌≢◌, ◌≤◌, ◌<◌, ◌+◌, ◌==◌, ℕ, List, [], ◌∷◌, ◌++◌, length, take, All, ⊤, Bool, true, false, Option, None, Some, option_map, Result, OnErr}
+use Rattle.std.specs.Prelude.{◌≡◌, ◌≤◌, ◌<◌, ◌+◌, ◌==◌, ◌⊎◌, if◌then◌else◌, ℕ, zero, suc, List, [], ◌∷◌, ◌++◌, length, take, All, ⊤, Bool, true, false, Option, None, Some, option_map}
 use Rattle.std.specs.List.{concat}
 use Rattle.std.specs.Io.KnownBytes.{append_known}
 use Rattle.file_medium.specs.Copies.{IsFrontOf}
@@ -30,6 +30,19 @@ leaving_out (suc count) (b ∷ bs) = leaving_out count bs
 -- The known bytes without their sum lines, of which so many are of records: what stands behind them is the end of the world.
 abbrev pub closed_of : ℕ → Option (List ℕ) → Option (List ℕ)
 closed_of closed known = option_map (λ text. take closed (leaving_out 0 text)) known
+
+-- What callers see of a log: of the file, what it holds and what of it is safe, and of the open batch.
+abbrev pub log_of : ℕ → Bool → Bool → Option (List ℕ) → Option (List ℕ) → List ℕ → SealedBatches
+log_of closed is_lost is_ended file safe batch = record {
+  bytes = append_known (closed_of closed file) batch;
+  safe = closed_of closed safe;
+  closed = closed;
+  batch = batch;
+  is_lost = is_lost;
+  is_ended = is_ended;
+  file = file;
+  file_safe = safe;
+}
 
 -- The text is that of closed batches, of which the records have so many bytes; behind them stands the end of the world where it
 -- was ended.

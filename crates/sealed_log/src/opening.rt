@@ -19,11 +19,11 @@ fn cut_torn<F: LogFile>(file: &mut F, text: &[u8], whole: usize) -> Result<(), F
     ensures cut { OnOk result (F.bytes file.new ≡ cut_known whole (F.bytes file.old)) }
     ensures safe { OnOk result (F.safe file.new ≡ F.bytes file.new) }
 {
-    if whole < text.len() {
-        file.cut(whole as u64)?;
-        file.sync()?;
+    if whole == text.len() {
+        return Ok(());
     }
-    Ok(())
+    file.cut(whole as u64)?;
+    file.sync()
 }
 
 /// Syncs a file, reads it whole, and cuts off what a stop has left behind its closed batches.

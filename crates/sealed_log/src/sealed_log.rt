@@ -2,7 +2,8 @@
 
 ghost use Rattle.std.specs.Prelude.{◌≡◌, ◌≢◌, ◌-◌, ◌≤◌, ◌++◌, [], None, false, true, length, take, IfOk, IfErr, OnOk, OnErr};
 ghost use Rattle.std.specs.Io.KnownBytes.{append_known};
-ghost use Rattle.file_medium.specs.Files.{cut_known};
+ghost use Rattle.std.specs.Io.{ReadsAtMost};
+ghost use Rattle.file_medium.specs.Files.{CutsTo, ReadsAt, cut_known};
 ghost use Rattle.sealed_text.specs.Seals.{IsBatch, end_batch, sealed_batch};
 ghost use Rattle.sealed_log.specs.Sealed.{Opens, Refuses, IsOpen, sealed_open};
 
@@ -48,21 +49,12 @@ pub struct SealedLog<F: LogFile> {
 
 impl<F: LogFile> Model for SealedLog<F> {
     ghost use Rattle.std.specs.Prelude.{vec_capacity};
-    ghost use Rattle.std.specs.Io.KnownBytes.{append_known};
-    ghost use Rattle.sealed_log.specs.Sealed.{SealedBatches, closed_of, IsSealed};
+    ghost use Rattle.sealed_log.specs.Sealed.{SealedBatches, log_of, IsSealed};
 
     ghost Value = { SealedBatches };
 
-    ghost view = { λ l. record {
-      bytes = append_known (closed_of l.closed (F.bytes l.file)) l.batch.items;
-      safe = closed_of l.closed (F.safe l.file);
-      closed = l.closed;
-      batch = l.batch.items;
-      is_lost = l.is_lost;
-      is_ended = l.is_ended;
-      file = F.bytes l.file;
-      file_safe = F.safe l.file;
-    } };
+    ghost view = { λ l. log_of l.closed l.is_lost l.is_ended (F.bytes l.file) (F.safe l.file)
+        l.batch.items };
 
     ghost invariant = { λ l. IsSealed l.closed l.is_lost l.is_ended (F.bytes l.file)
         (F.safe l.file) l.records.items l.batch.items (vec_capacity l.batch) };
@@ -124,16 +116,12 @@ impl<F: LogFile> SealedLog<F> {
             return Err(FileFailed);
         }
         add_piece(&mut self.batch, end_batch())?;
-        match add_sealed(&mut self.file, &mut self.batch) {
-            Ok(()) => {
-                self.is_ended = true;
-                Ok(())
-            }
-            Err(FileFailed) => {
-                self.is_lost = true;
-                Err(FileFailed)
-            }
+        let ended = add_sealed(&mut self.file, &mut self.batch);
+        match ended {
+            Ok(()) => self.is_ended = true,
+            Err(FileFailed) => self.is_lost = true,
         }
+        ended
     }
 
     /// Whether a call of the file has failed. Costs no memory.
@@ -158,6 +146,8 @@ impl<F: LogFile> LogFile for SealedLog<F> {
     ghost safe = { λ l. l.safe };
 
     fn read_at(&mut self, at: u64, buffer: &mut [u8]) -> Result<usize, FileFailed>
+        ensures bound { ReadsAtMost result buffer.new }
+        ensures read { IfOk result (λ n. ReadsAt self.old.bytes at n buffer.new) }
         ensures same { self.new ≡ self.old }
     {
         if self.is_lost {
@@ -203,20 +193,24 @@ impl<F: LogFile> LogFile for SealedLog<F> {
           bytes = cut_known kept self.old.bytes;
           batch = take (kept - self.old.closed) self.old.batch;
         }) }
+        ensures safe { CutsTo kept self.old.safe self.new.safe result }
         ensures behind { OnOk result (self.old.closed ≤ kept) }
         ensures lines { OnOk result (IsOpen self.new.batch) }
         ensures sound { OnOk result (self.old.is_lost ≡ false) }
         ensures going_on { OnOk result (self.old.is_ended ≡ false) }
         ensures err { OnErr result (self.new ≡ self.old) }
     {
-        if self.is_lost || self.is_ended || kept < self.closed {
+        if self.is_lost || self.is_ended {
             return Err(FileFailed);
         }
-        let kept = (kept - self.closed) as usize;
-        if !are_lines(&self.batch, kept) {
+        let lines = match kept.checked_sub(self.closed) {
+            Some(lines) => lines as usize,
+            None => return Err(FileFailed),
+        };
+        if !are_lines(&self.batch, lines) {
             return Err(FileFailed);
         }
-        self.batch.truncate(kept);
+        self.batch.truncate(lines);
         Ok(())
     }
 
@@ -224,6 +218,9 @@ impl<F: LogFile> LogFile for SealedLog<F> {
     /// that ends a world, which `end` alone writes, or the log is lost or ended; and where the write
     /// falls short or the sync fails: then the log is lost.
     fn sync(&mut self) -> Result<(), FileFailed>
+        ensures bytes { OnOk result (self.new.bytes ≡ self.old.bytes) }
+        ensures ok { OnOk result (self.new.safe ≡ self.new.bytes) }
+        ensures err { OnErr result (self.new.safe ≡ self.old.safe) }
         ensures file { OnOk result (self.new.file
             ≡ append_known self.old.file (sealed_open self.old.batch)) }
         ensures file_safe { OnOk result (self.new.file_safe ≡ self.new.file) }
@@ -243,9 +240,8 @@ impl<F: LogFile> LogFile for SealedLog<F> {
         if self.batch.is_empty() {
             return Ok(());
         }
-        let closed = match self.closed.checked_add(self.batch.len() as u64) {
-            Some(closed) => closed,
-            None => return Err(FileFailed),
+        let Some(closed) = self.closed.checked_add(self.batch.len() as u64) else {
+            return Err(FileFailed);
         };
         match add_sealed(&mut self.file, &mut self.batch) {
             Ok(()) => {

@@ -1,1 +1,0 @@
--- Lemmas on closed batches (this project).
