@@ -12,7 +12,7 @@ use Rattle.file_medium.specs.Copies.{IsFrontOf, IsCopyOf}
 use Rattle.sealed_text.specs.Seals.{sealed_batch, sealed_text, closed_text, end_batch, is_batch_byte, EndsInLineFeed, IsBatch, IsRecords, IsEnd, IsDamagedAt, Unseals}
 use Rattle.sealed_text.specs.declared.reading.Unsealed.{Unsealed}
 use Rattle.sealed_log.specs.declared.fault.SealFault.TheVariants.{Damaged, Ended}
-use Rattle.sealed_log.specs.Sealed.{closed_of, leaving_out, IsClosed, AreClosed, IsOpen, IsSealed, CutsTorn, Closes, Opens, Refuses, log_of}
+use Rattle.sealed_log.specs.Sealed.{closed_of, leaving_out, IsClosed, AreClosed, IsOpen, IsSealed, CutsTorn, Closes, Opens, Refuses, IsLengthOf, log_of, sealed_open}
 use Rattle.sealed_log.proofs.Leaving.{records-of, closed-records, closed-push, closed-end, concat-push}
 
 -- nothing is added
@@ -113,6 +113,10 @@ pub open-records : (batch : List ℕ) → IsOpen batch → batch ≢ [] → batc
 open-records batch (inl none) some other = absurd (some none)
 open-records batch (inr lines) some other = record { batch = lines; other = other }
 
+sealed_open-some : (batch : List ℕ) → IsRecords batch → sealed_open batch ≡ sealed_batch batch
+sealed_open-some [] one = let last = one.batch.last in absurd (omega (arith, ap (length {A = ℕ}) last.ends, length-append last.before (10 ∷ [])))
+sealed_open-some (b ∷ bs) one = refl
+
 -- a batch was closed, and the file synced
 pub sealed-closed : (closed new_closed : ℕ) (lost is_ended : Bool) (file safe new new_safe : Option (List ℕ)) (records batch left : List ℕ)
     (room new_room : ℕ) → IsSealed closed lost is_ended file safe records batch room → lost ≡ false → is_ended ≡ false → IsRecords batch
@@ -145,6 +149,32 @@ bytes-closed closed new_closed lost is_ended file safe new records batch left ro
     ap (append_known (closed_of new_closed new)) none ∙ append_known-nil (closed_of new_closed new)
     ∙ ap (λ n. closed_of n new) count ∙ ap (closed_of (closed + length batch)) added
     ∙ closed_of-push closed file batch before one
+
+-- what is seen of it then
+pub view-closed : (closed new_closed : ℕ) (lost is_ended : Bool) (file safe new new_safe : Option (List ℕ)) (records batch left : List ℕ) (room : ℕ)
+    → IsSealed closed lost is_ended file safe records batch room → lost ≡ false → is_ended ≡ false → IsRecords batch
+    → new ≡ append_known file (sealed_batch batch) → new_safe ≡ new → left ≡ [] → new_closed ≡ closed + length batch
+    → log_of new_closed lost is_ended new new_safe left ≡ record (log_of closed lost is_ended file safe batch) {
+      safe = append_known (closed_of closed file) batch;
+      closed = closed + length batch;
+      batch = [];
+      file = append_known file (sealed_open batch);
+      file_safe = new;
+    }
+view-closed closed new_closed lost is_ended file safe new new_safe records batch left room is sound going one added synced none count =
+    let all = append_known (closed_of closed file) batch in
+    let bytes : append_known (closed_of new_closed new) left ≡ all =
+    bytes-closed closed new_closed lost is_ended file safe new records batch left room is sound going one added none count in
+    let kept : closed_of new_closed new_safe ≡ all =
+    ap (closed_of new_closed) synced ∙ sym (append_known-nil (closed_of new_closed new))
+    ∙ ap (append_known (closed_of new_closed new)) (sym none) ∙ bytes in
+    let more : new ≡ append_known file (sealed_open batch) = added ∙ ap (append_known file) (sym (sealed_open-some batch one)) in
+    ap (λ k. record { bytes = k; safe = closed_of new_closed new_safe; closed = new_closed; batch = left; is_lost = lost; is_ended = is_ended; file = new; file_safe = new_safe }) bytes
+    ∙ ap (λ k. record { bytes = all; safe = k; closed = new_closed; batch = left; is_lost = lost; is_ended = is_ended; file = new; file_safe = new_safe }) kept
+    ∙ ap (λ n. record { bytes = all; safe = all; closed = n; batch = left; is_lost = lost; is_ended = is_ended; file = new; file_safe = new_safe }) count
+    ∙ ap (λ l. record { bytes = all; safe = all; closed = closed + length batch; batch = l; is_lost = lost; is_ended = is_ended; file = new; file_safe = new_safe }) none
+    ∙ ap (λ k. record { bytes = all; safe = all; closed = closed + length batch; batch = []; is_lost = lost; is_ended = is_ended; file = new; file_safe = k }) synced
+    ∙ ap (λ k. record { bytes = all; safe = all; closed = closed + length batch; batch = []; is_lost = lost; is_ended = is_ended; file = k; file_safe = new }) more
 
 -- the world was ended, and the file synced
 pub sealed-ended : (closed : ℕ) (lost is_ended : Bool) (file safe new new_safe : Option (List ℕ)) (records batch left : List ℕ) (room new_room : ℕ)
@@ -351,3 +381,16 @@ not-same r xs ys is was same =
 pub within-all : (at n l : ℕ) → at < l → (0 < n → at + n ≤ l) → at + n ≤ l
 within-all at zero l less within = omega arith
 within-all at (suc n) l less within = within (omega arith)
+
+-- the records that were opened are so many
+pub opened-length : (known file : Option (List ℕ)) (held batch : List ℕ) (closed : ℕ) → Closes known file held
+    → closed ≡ length held → batch ≡ [] → IsLengthOf (append_known (closed_of closed file) batch) closed
+opened-length None file held batch closed none count nothing =
+    subst (λ k. IsLengthOf (append_known (closed_of closed k) batch) closed) (sym none) tt
+opened-length (Some text) file held batch closed cut count nothing =
+    let same = same-records text held file cut in
+    let bytes : append_known (closed_of closed file) batch ≡ Some held =
+    ap (append_known (closed_of closed file)) nothing ∙ append_known-nil (closed_of closed file)
+    ∙ ap (closed_of closed) cut.file_is ∙ ap (λ n. Some (take n (leaving_out 0 (sealed_text cut.batches)))) count
+    ∙ ap Some (opened-records text held file cut ∙ sym same) in
+    subst (λ k. IsLengthOf k closed) (sym bytes) count

@@ -1,3 +1,4 @@
 pub mod Leaving
 pub mod Closing
 pub mod Readings
+pub mod Keeping

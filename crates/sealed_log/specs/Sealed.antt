@@ -109,10 +109,24 @@ abbrev pub Refuses : Option (List ℕ) → SealFault → Type 0
 Refuses None fault = ⊤
 Refuses (Some text) fault = IsRefusedFor text fault
 
--- A text that keeps all that sums close in another one: each closed batch of that is at its place.
+-- Closed batches of records that stand at the front of the one text stand at the front of the other.
 pub record KeepsClosed (old new : List ℕ) : Type 0 where
-  pub keeps : (batches : List (List ℕ)) (rest : List ℕ) → All IsRecords batches → old ≡ sealed_text batches ++ rest
-      → (tail : List ℕ) × (new ≡ sealed_text batches ++ tail)
+  pub keeps : (batches : List (List ℕ)) (rest : List ℕ) → BeginsWith old batches rest → (tail : List ℕ) × BeginsWith new batches tail
+
+-- The same of bytes, where those of the one are known: then those of the other are too.
+abbrev pub KeepsAll : Option (List ℕ) → Option (List ℕ) → Type 0
+KeepsAll None new = ⊤
+KeepsAll (Some old) None = ⊥
+KeepsAll (Some old) (Some new) = KeepsClosed old new
+
+-- What is safe is what was, or has all that sums close in what the file held.
+abbrev pub LosesNothing : Option (List ℕ) → Option (List ℕ) → Option (List ℕ) → Type 0
+LosesNothing held safe new = (new ≡ safe) ⊎ KeepsAll held new
+
+-- So many are the known bytes.
+abbrev pub IsLengthOf : Option (List ℕ) → ℕ → Type 0
+IsLengthOf None count = ⊤
+IsLengthOf (Some xs) count = count ≡ length xs
 
 -- What was added to a file for a batch: nothing for none, and else the batch and the line that closes it.
 abbrev pub sealed_open : List ℕ → List ℕ

@@ -1,9 +1,9 @@
 //! What a file holds when it is opened.
 
-ghost use Rattle.std.specs.Prelude.{◌≡◌, ◌≤◌, length, IfOk, IfErr, OnOk};
+ghost use Rattle.std.specs.Prelude.{◌≡◌, ◌≤◌, ◌⊎◌, length, IfOk, IfErr, OnOk};
 ghost use Rattle.file_medium.specs.Copies.{IsCopyOf};
 ghost use Rattle.file_medium.specs.Files.{cut_known};
-ghost use Rattle.sealed_log.specs.Sealed.{Closes, Refuses};
+ghost use Rattle.sealed_log.specs.Sealed.{Closes, LosesNothing, Refuses};
 
 use crate::fault::SealFault;
 use file_medium::{FileFailed, LogFile, read_whole};
@@ -18,6 +18,8 @@ fn cut_torn<F: LogFile>(file: &mut F, text: &[u8], whole: usize) -> Result<(), F
     requires within { whole ≤ length text.now }
     ensures cut { OnOk result (F.bytes file.new ≡ cut_known whole (F.bytes file.old)) }
     ensures safe { OnOk result (F.safe file.new ≡ F.bytes file.new) }
+    ensures kept { (F.safe file.new ≡ F.safe file.old)
+        ⊎ (F.safe file.new ≡ cut_known whole (F.safe file.old)) }
 {
     if whole == text.len() {
         return Ok(());
@@ -31,6 +33,7 @@ pub(crate) fn read_closed<F: LogFile>(alloc: Global, file: &mut F) -> Result<Uns
     ensures ok { IfOk result (λ u. Closes (F.bytes file.old) (F.bytes file.new) u.records.items) }
     ensures safe { OnOk result (F.safe file.new ≡ F.bytes file.new) }
     ensures err { IfErr result (Refuses (F.bytes file.old)) }
+    ensures kept { LosesNothing (F.bytes file.old) (F.safe file.old) (F.safe file.new) }
 {
     file.sync()?;
     let text = match read_whole(alloc, file) {

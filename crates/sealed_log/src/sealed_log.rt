@@ -1,11 +1,11 @@
 //! The log of closed batches.
 
-ghost use Rattle.std.specs.Prelude.{◌≡◌, ◌≢◌, ◌-◌, ◌≤◌, ◌++◌, [], None, false, true, length, take, IfOk, IfErr, OnOk, OnErr};
+ghost use Rattle.std.specs.Prelude.{◌≡◌, ◌≢◌, ◌+◌, ◌-◌, ◌≤◌, ◌++◌, [], None, false, true, length, take, IfOk, IfErr, IsOk, OnOk, OnErr};
 ghost use Rattle.std.specs.Io.KnownBytes.{append_known};
 ghost use Rattle.std.specs.Io.{ReadsAtMost};
 ghost use Rattle.file_medium.specs.Files.{CutsTo, ReadsAt, cut_known};
 ghost use Rattle.sealed_text.specs.Seals.{IsBatch, end_batch, sealed_batch};
-ghost use Rattle.sealed_log.specs.Sealed.{Opens, Refuses, IsOpen, sealed_open};
+ghost use Rattle.sealed_log.specs.Sealed.{Opens, Refuses, IsLengthOf, IsOpen, sealed_open};
 
 use crate::adding::{SUM_LINE, add_piece, add_sealed, are_lines};
 use crate::fault::SealFault;
@@ -73,6 +73,7 @@ impl<F: LogFile + Drop> SealedLog<F> {
         ensures opens { IfOk result (Opens (F.bytes file)) }
         ensures safe { IfOk result (λ log. log.safe ≡ log.bytes) }
         ensures file_safe { IfOk result (λ log. log.file_safe ≡ log.file) }
+        ensures closed { IfOk result (λ log. IsLengthOf log.bytes log.closed) }
         ensures batch { IfOk result (λ log. log.batch ≡ []) }
         ensures sound { IfOk result (λ log. log.is_lost ≡ false) }
         ensures going_on { IfOk result (λ log. log.is_ended ≡ false) }
@@ -148,6 +149,7 @@ impl<F: LogFile> LogFile for SealedLog<F> {
     fn read_at(&mut self, at: u64, buffer: &mut [u8]) -> Result<usize, FileFailed>
         ensures bound { ReadsAtMost result buffer.new }
         ensures read { IfOk result (λ n. ReadsAt self.old.bytes at n buffer.new) }
+        ensures open_batch { self.old.is_lost ≡ false → self.old.closed ≤ at → IsOk result }
         ensures same { self.new ≡ self.old }
     {
         if self.is_lost {
@@ -218,20 +220,19 @@ impl<F: LogFile> LogFile for SealedLog<F> {
     /// that ends a world, which `end` alone writes, or the log is lost or ended; and where the write
     /// falls short or the sync fails: then the log is lost.
     fn sync(&mut self) -> Result<(), FileFailed>
-        ensures bytes { OnOk result (self.new.bytes ≡ self.old.bytes) }
-        ensures ok { OnOk result (self.new.safe ≡ self.new.bytes) }
-        ensures err { OnErr result (self.new.safe ≡ self.old.safe) }
-        ensures file { OnOk result (self.new.file
-            ≡ append_known self.old.file (sealed_open self.old.batch)) }
-        ensures file_safe { OnOk result (self.new.file_safe ≡ self.new.file) }
-        ensures none_open { OnOk result (self.new.batch ≡ []) }
+        ensures ok { OnOk result (self.new ≡ record self.old {
+          safe = self.old.bytes;
+          closed = self.old.closed + length self.old.batch;
+          batch = [];
+          file = append_known self.old.file (sealed_open self.old.batch);
+          file_safe = self.new.file;
+        }) }
         ensures records { OnOk result (self.old.batch ≢ end_batch) }
         ensures sound { OnOk result (self.old.is_lost ≡ false) }
-        ensures still_sound { OnOk result (self.new.is_lost ≡ false) }
         ensures going_on { OnOk result (self.old.is_ended ≡ false) }
-        ensures still_going_on { OnOk result (self.new.is_ended ≡ false) }
-        ensures file_err { OnErr result (self.new.file_safe ≡ self.old.file_safe) }
-        ensures unchanged { OnErr result (self.new.is_lost ≡ false → self.new ≡ self.old) }
+        ensures safe { OnErr result (self.new.safe ≡ self.old.safe) }
+        ensures file_safe { OnErr result (self.new.file_safe ≡ self.old.file_safe) }
+        ensures err { OnErr result (self.new.is_lost ≡ false → self.new ≡ self.old) }
         ensures lost { self.old.is_lost ≡ true → self.new ≡ self.old }
     {
         if self.is_lost || self.is_ended || self.batch.as_slice() == end_batch() {

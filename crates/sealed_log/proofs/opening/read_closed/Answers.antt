@@ -1,7 +1,8 @@
-use Rattle.std.proofs.Common.{subst, ◌∙◌}
+use Rattle.std.proofs.Common.{◌≡◌, subst, ◌∙◌}
 use Rattle.file_medium.specs.Copies.{IsCopyOf}
 use Rattle.sealed_text.specs.Seals.{Unseals}
 use Rattle.sealed_log.proofs.Closing.{refuses-ended}
+use Rattle.sealed_log.proofs.Keeping.{loses-cut}
 use Rattle.sealed_log.proofs.opening.read_closed.Goals as goal
 
 pub returns-then-unsealed-clause-err : goal.returns-then-unsealed-clause-err
@@ -10,3 +11,27 @@ returns-then-unsealed-clause-err g c =
     let copy = subst (λ k. IsCopyOf k text) (c.in-Ok.ensures.bytes ∙ c.in_ok-sync.ensures.bytes) c.in-Ok.ensures.copy in
     let unseals = subst (λ t. Unseals t c.in-Ok-unseal.unsealed) c.as_slice.ensures.value c.in-Ok-unseal.ensures.ok in
     refuses-ended (g.F.LogFile.bytes c.args.file.now) text c.in-Ok-unseal.unsealed copy unseals c.if-unsealed.true
+
+pub returns-in_err-cut_torn-clause-kept : goal.returns-in_err-cut_torn-clause-kept
+returns-in_err-cut_torn-clause-kept g c =
+    let text = c.in-Ok.text.items in
+    let u = c.in-Ok-unseal.unsealed in
+    let held = g.F.LogFile.bytes c.args.file.now in
+    let copy = subst (λ k. IsCopyOf k text) (c.in-Ok.ensures.bytes ∙ c.in_ok-sync.ensures.bytes) c.in-Ok.ensures.copy in
+    let unseals = subst (λ t. Unseals t u) c.as_slice.ensures.value c.in-Ok-unseal.ensures.ok in
+    let synced : g.F.LogFile.safe c.read_whole.new.file ≡ held =
+    c.in-Ok.ensures.safe ∙ c.in_ok-sync.ensures.ok ∙ c.in_ok-sync.ensures.bytes in
+    loses-cut held (g.F.LogFile.safe c.args.file.now) (g.F.LogFile.safe c.read_whole.new.file) (g.F.LogFile.safe c.cut_torn.new.file)
+    text u synced copy unseals c.if-unsealed.false c.cut_torn.ensures.kept
+
+pub returns-clause-kept : goal.returns-clause-kept
+returns-clause-kept g c =
+    let text = c.in-Ok.text.items in
+    let u = c.in-Ok-unseal.unsealed in
+    let held = g.F.LogFile.bytes c.args.file.now in
+    let copy = subst (λ k. IsCopyOf k text) (c.in-Ok.ensures.bytes ∙ c.in_ok-sync.ensures.bytes) c.in-Ok.ensures.copy in
+    let unseals = subst (λ t. Unseals t u) c.as_slice.ensures.value c.in-Ok-unseal.ensures.ok in
+    let synced : g.F.LogFile.safe c.read_whole.new.file ≡ held =
+    c.in-Ok.ensures.safe ∙ c.in_ok-sync.ensures.ok ∙ c.in_ok-sync.ensures.bytes in
+    loses-cut held (g.F.LogFile.safe c.args.file.now) (g.F.LogFile.safe c.read_whole.new.file) (g.F.LogFile.safe c.cut_torn.new.file)
+    text u synced copy unseals c.if-unsealed.false c.cut_torn.ensures.kept
