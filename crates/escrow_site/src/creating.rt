@@ -30,32 +30,20 @@ fn schema_fault(alloc: Global, schema: &str, number: u64, fault: IdentityFault) 
     asked(alloc, schema, why)
 }
 
-// The site of a number in the world of a header, which has this name of its own, or none.
-fn site_in(
-    alloc: Global,
-    name: &Option<String>,
-    number: u64,
-    header: &[u8],
-) -> Result<Identity, IdentityFault> {
-    match name {
-        Some(name) => Identity::named(alloc, name.as_bytes(), number, header),
-        None => Identity::new(alloc, number, header),
-    }
-}
-
-// The site of a number in the world of a schema's file.
+// The site of a number in the world of a schema's file and of this name.
 fn read_schema(
     rt: &HostRuntime,
     schema: &str,
     number: u64,
-    name: &Option<String>,
+    name: &str,
 ) -> Result<Identity, Fault> {
     let alloc = rt.alloc();
     let text = match fs::read(rt, schema) {
         Ok(text) => text,
         Err(error) => return Err(unread(alloc, schema, error)),
     };
-    match site_in(alloc, name, number, header_of(text.as_slice())) {
+    let header = header_of(text.as_slice());
+    match Identity::named(alloc, name.as_bytes(), number, header) {
         Ok(identity) => Ok(identity),
         Err(fault) => Err(schema_fault(alloc, schema, number, fault)),
     }
@@ -127,7 +115,8 @@ fn make_site(rt: &HostRuntime, paths: &Paths, identity: &Identity) -> Result<(),
 }
 
 /// Makes the folder of a site, with a log of no records, and makes it safe from a stop of the machine. A
-/// fault may leave a part of it.
+/// fault may leave a part of it. Where no name is given nothing is read or made: worlds of one header
+/// are told apart by their names alone.
 pub(crate) fn create(
     rt: &HostRuntime,
     folder: &str,
@@ -135,7 +124,10 @@ pub(crate) fn create(
     number: u64,
     name: &Option<String>,
 ) -> Result<(), Fault> {
-    let identity = read_schema(rt, schema, number, name)?;
+    let Some(name) = name else {
+        return Err(Fault::NoWorldName);
+    };
+    let identity = read_schema(rt, schema, number, name.as_str())?;
     let paths = Paths::new(rt.alloc(), folder)?;
     make_site(rt, &paths, &identity)
 }

@@ -93,6 +93,9 @@ pub(crate) enum Fault {
     DeviceCall(String, &'static str, io::Error, &'static str),
     #[error("{0}: in use: another process serves it")]
     Busy(String),
+    /// No name of the world is given.
+    #[error("--name NAME is wanted: 1 to 64 of a-z A-Z 0-9 . _ - that no other world of yours has, the same for all sites of this world")]
+    NoWorldName,
     /// No folder of this site is named.
     #[error("site {0}: isn't among the folders: name the folders of all sites of the world")]
     NoFolder(u16),
@@ -130,7 +133,7 @@ impl Fault {
     pub(crate) fn status(&self) -> u8 {
         match self {
             Fault::Read | Fault::Write | Fault::TooLong => 1,
-            Fault::Unread(..) | Fault::Asked(..) | Fault::NoFolder(_) => 2,
+            Fault::Unread(..) | Fault::Asked(..) | Fault::NoFolder(_) | Fault::NoWorldName => 2,
             Fault::Refused(..)
             | Fault::LogsLost(_)
             | Fault::TooMuch(_)

@@ -34,6 +34,18 @@ fn carry_out(rt: &HostRuntime, task: &Task) -> Result<(), Fault> {
         Task::Check { folders } => checking::check(rt, folders.as_slice()),
         Task::Settle { folders, how } => settling::settle(rt, folders.as_slice(), *how),
         Task::Weave { folders } => weaving::weave_folders(rt, folders.as_slice()),
+        Task::Version => tell_version(rt),
+    }
+}
+
+// Which versions of files are read, and which are made. A folder keeps its own for life.
+const VERSIONS: &str =
+    "escrow_site: reads site 1 2, log 1, trace 1; makes site 2, log 1, trace 1; answers ready 1";
+
+fn tell_version(rt: &impl Print) -> Result<(), Fault> {
+    match println!(rt; "{VERSIONS}") {
+        Ok(()) => Ok(()),
+        Err(_) => Err(Fault::Write),
     }
 }
 

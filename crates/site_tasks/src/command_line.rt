@@ -27,15 +27,19 @@ line or the schema is refused; 3 a folder or a log is refused; 4 out of memory;
 
 const CREATE_ABOUT: &str = "Makes the folder of a site, with an empty log";
 
+// The line of clap's own has no `--name`, since a call without it is told more than clap tells.
+const CREATE_USAGE: &str =
+    "escrow_site create --schema <FILE> --site <N> --name <NAME> <FOLDER>";
+
 const CREATE_EXAMPLE: &str = "\
 FILE has one line, the JSON header: the number of sites, 1 to 64, and 1 to 256
 fields, each with its floor, ceiling and value. Each site of a world is created
 once, with the same header and NAME and a number of its own, from 0. Nothing may be
 at the path FOLDER.
 
-Give each world a NAME that no other has, of 1 to 64 of a-z A-Z 0-9 . _ -, as a
-concert's. Worlds of one header without it are one world to carriers, and rights of
-the one would be spent in the other.
+NAME is the world's own: 1 to 64 of a-z A-Z 0-9 . _ -, as concert-17. No other world
+of yours has it. Two worlds of one header and one NAME are one world to a broker or
+a folder of statements, and one sells what the other has.
 
 Example of FILE:
   {\"sites\":2,\"fields\":[{\"name\":\"stock\",\"floor\":0,\"ceiling\":100,\"value\":40}]}";
@@ -107,6 +111,8 @@ Example:
   escrow_site settle shop0 shop1 > world2.json
   escrow_site create new0 --schema world2.json --site 0 --name shops-2027";
 
+const VERSION_ABOUT: &str = "Tells which versions of files it reads and makes";
+
 const WEAVE_ABOUT: &str = "Writes one trace of all sites of a world, for `escrow audit`";
 
 const WEAVE_EXAMPLE: &str = "\
@@ -160,13 +166,14 @@ fn name_arg<'a>(alloc: Global) -> Arg<'a> {
     Arg::new(alloc, "name")
         .long("name")
         .value_name("NAME")
-        .help("The name of the world, which no other world has")
+        .help("The world's own name, the same for all its sites")
         .action(ArgAction::Set)
 }
 
 fn create_command<'a>(alloc: Global) -> Result<Command<'a>, AllocError> {
     Command::new(alloc, "create")
         .about(CREATE_ABOUT)
+        .override_usage(CREATE_USAGE)
         .after_help(CREATE_EXAMPLE)
         .arg(folder_arg(alloc))?
         .arg(schema_arg(alloc))?
@@ -251,6 +258,10 @@ fn weave_command<'a>(alloc: Global) -> Result<Command<'a>, AllocError> {
         .arg(folders_arg(alloc))
 }
 
+fn version_command<'a>(alloc: Global) -> Command<'a> {
+    Command::new(alloc, "version").about(VERSION_ABOUT)
+}
+
 // The command with a subcommand, where that could be made.
 fn with_part<'a>(
     whole: Command<'a>,
@@ -270,7 +281,8 @@ fn program<'a>(alloc: Global) -> Result<Command<'a>, AllocError> {
     let whole = with_part(whole, show_command(alloc))?;
     let whole = with_part(whole, check_command(alloc))?;
     let whole = with_part(whole, settle_command(alloc))?;
-    with_part(whole, weave_command(alloc))
+    let whole = with_part(whole, weave_command(alloc))?;
+    whole.subcommand(version_command(alloc))
 }
 
 // The text of an argument, or none where it isn't given, which clap refuses if it is required.
@@ -373,6 +385,7 @@ fn task_of(alloc: Global, matches: &ArgMatches<'_>) -> Result<Task, Error> {
         Some(("check", asked)) => Ok(check_task(alloc, asked)?),
         Some(("settle", asked)) => Ok(settle_task(alloc, asked)?),
         Some(("weave", asked)) => Ok(weave_task(alloc, asked)?),
+        Some(("version", _)) => Ok(Task::Version),
         _ => Err(program(alloc)?.error(ErrorKind::MissingSubcommand, "no subcommand")?),
     }
 }

@@ -25,8 +25,8 @@ pub struct Settling {
 /// What the command line asks for.
 #[derive(Drop)]
 pub enum Task {
-    /// To make the folder of the site of this number, by the schema in a file, in a world that has this
-    /// name of its own, or none.
+    /// To make the folder of the site of this number, by the schema in a file, in the world of this name.
+    /// None: no name was given, so that nothing is made.
     Create {
         folder: String,
         schema: String,
@@ -55,4 +55,6 @@ pub enum Task {
     Weave {
         folders: Vec<String>,
     },
+    /// To tell which versions of files are read and made.
+    Version,
 }
