@@ -4,13 +4,14 @@ use Rattle.std.specs.Prelude.{IfOk, IfErr, MatchResult}
 use Rattle.std.specs.Fmt.{decimal}
 use Rattle.std.proofs.lemmas.List.{append_cancel_left}
 use Rattle.std.proofs.lemmas.Fmt.{decimal_injective}
+use Rattle.sealed_text.specs.Seals.{sum_line}
 use Rattle.field_bounds.specs.Schema.{SchemaValue}
 use Rattle.field_bounds.specs.Header.{schema_of}
 use Rattle.field_bounds.specs.declared.id.SiteNo.{SiteNo}
 use Rattle.field_bounds.proofs.Alone.{schema_of-limits}
 use Rattle.site_folder.specs.declared.fault.IdentityFault.{IdentityFault}
 use Rattle.site_folder.specs.declared.fault.IdentityFault.TheVariants.{Version, NoIdentity, World, Name, Lines, Header, Number, NoMemory}
-use Rattle.site_folder.specs.Identity.{IdentityValue, IsIdentity, IsOneLine, IsNamed, world_text, world_digest, world_name, version_line, line_then, name_behind, name_then, told_text, identity_text, file_name, log_name, trace_name, HaveOneName, AreOneWorld}
+use Rattle.site_folder.specs.Identity.{IdentityValue, IsIdentity, IsOneLine, IsNamed, world_text, world_digest, world_name, version_line, line_then, name_behind, name_then, told_text, identity_text, file_name, log_name, sealed_head, sealed_log_name, trace_name, HaveOneName, AreOneWorld}
 use Rattle.site_folder.specs.Reading.{Tells, TellsLines, TellsNone, MakesNone, IsVersion, IsRefused}
 use Rattle.site_folder.proofs.LineLemmas.{world_name_line, own_name_line, number_line, world_line, no_line, one_cut, SameTold, same_lines}
 
@@ -181,4 +182,34 @@ pub other_kind : (v w : IdentityValue) (rest more : List ℕ) → log_name v ++ 
 other_kind v w rest more is =
     let at : slice_index (log_name v ++ rest) 7 ≡ slice_index (trace_name w ++ more) 7 = ap (λ (l : List ℕ). slice_index l 7) is in
     let letters : ◌≡◌ {A = ℕ} 108 116 = at in
+    absurd (omega (arith, letters))
+
+-- what stands behind the first three lines of the name of a log of version 2, with more behind it
+abbrev behind_world_line : IdentityValue → List ℕ → List ℕ
+behind_world_line v more = line_then (codes "head 0 0") [] ++ (sum_line (sealed_head v) ++ more)
+
+sealed_more : (v : IdentityValue) (more : List ℕ)
+    → sealed_log_name v ++ more ≡ file_name (codes "escrow log 2") v ++ behind_world_line v more
+sealed_more v more =
+    append_assoc (sealed_head v) (sum_line (sealed_head v)) more
+    ∙ append_assoc (file_name (codes "escrow log 2") v) (line_then (codes "head 0 0") []) (sum_line (sealed_head v) ++ more)
+
+pub one_sealed_name : (v w : IdentityValue) (rest more : List ℕ) → IsIdentity v → IsIdentity w
+    → sealed_log_name v ++ rest ≡ sealed_log_name w ++ more → HaveOneName v w
+one_sealed_name v w rest more own other is =
+    one_name (codes "escrow log 2") v w (behind_world_line v rest) (behind_world_line w more) own other
+    (sym (sealed_more v rest) ∙ is ∙ sealed_more w more)
+
+-- nor is that of a log of version 2
+pub other_sealed_kind : (v w : IdentityValue) (rest more : List ℕ) → sealed_log_name v ++ rest ≢ trace_name w ++ more
+other_sealed_kind v w rest more is =
+    let at : slice_index (sealed_log_name v ++ rest) 7 ≡ slice_index (trace_name w ++ more) 7 = ap (λ (l : List ℕ). slice_index l 7) is in
+    let letters : ◌≡◌ {A = ℕ} 108 116 = at in
+    absurd (omega (arith, letters))
+
+-- the names of logs of two versions differ at the end of their first lines
+pub other_version_of_log : (v w : IdentityValue) (rest more : List ℕ) → log_name v ++ rest ≢ sealed_log_name w ++ more
+other_version_of_log v w rest more is =
+    let at : slice_index (log_name v ++ rest) 11 ≡ slice_index (sealed_log_name w ++ more) 11 = ap (λ (l : List ℕ). slice_index l 11) is in
+    let letters : ◌≡◌ {A = ℕ} 49 50 = at in
     absurd (omega (arith, letters))

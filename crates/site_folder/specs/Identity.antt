@@ -4,6 +4,7 @@ use Rattle.std.specs.List.{AllPass}
 use Rattle.std.specs.Fmt.{decimal}
 use Rattle.hex.specs.Hex.{encode_lower}
 use Rattle.sha2.specs.Sha256.{sha256}
+use Rattle.sealed_text.specs.Seals.{sealed_batch}
 use Rattle.field_bounds.specs.Schema.{SchemaValue}
 use Rattle.field_bounds.specs.Header.{schema_of}
 use Rattle.field_bounds.specs.declared.id.SiteNo.{SiteNo}
@@ -94,15 +95,24 @@ abbrev pub file_name : List ℕ → IdentityValue → List ℕ
 file_name version v =
     line_then version (line_then (codes "number " ++ decimal v.number.0) (line_then (codes "world " ++ world_name v) []))
 
--- The name of a log.
+-- The name of a log of version 1.
 abbrev pub log_name : IdentityValue → List ℕ
 log_name v = file_name (codes "escrow log 1") v
+
+-- The first four lines of a log of version 2. The last of them tells how many bytes and how many records were let go of in front of
+-- what stands behind the name: none.
+abbrev pub sealed_head : IdentityValue → List ℕ
+sealed_head v = file_name (codes "escrow log 2") v ++ line_then (codes "head 0 0") []
+
+-- The name of a log of version 2: those lines, and a fifth that tells their sum.
+abbrev pub sealed_log_name : IdentityValue → List ℕ
+sealed_log_name v = sealed_batch (sealed_head v)
 
 -- The name of a trace.
 abbrev pub trace_name : IdentityValue → List ℕ
 trace_name v = file_name (codes "escrow trace 1") v
 
--- Two sites have one name for their logs, and one for their traces: they are one site of worlds that have one name.
+-- Two sites have one name for their logs of a version, and one for their traces: they are one site of worlds that have one name.
 pub record HaveOneName (v w : IdentityValue) : Type 0 where
   pub number : v.number ≡ w.number
   pub world : world_name v ≡ world_name w

@@ -12,4 +12,4 @@ mod text;
 pub use fault::IdentityFault;
 pub use identity::Identity;
 pub use laws::{names_tell_sites_apart, worlds_have_texts_of_their_own};
-pub use text::{log_name, read_identity, trace_name, write_identity};
+pub use text::{log_name, read_identity, sealed_log_name, trace_name, write_identity};

@@ -1,13 +1,14 @@
 //! Identities as text.
 
 ghost use Rattle.std.specs.Prelude.{◌≡◌, ◌≢◌, ◌++◌, ◌⊎◌, OnOk, IfOk, IfErr, MatchResult, option_map};
-ghost use Rattle.site_folder.specs.Identity.{IdentityValue, IsIdentity, world_digest, version_line, name_behind, identity_text, file_name, log_name, trace_name};
+ghost use Rattle.site_folder.specs.Identity.{IdentityValue, IsIdentity, world_digest, version_line, name_behind, identity_text, file_name, log_name, sealed_log_name, trace_name};
 ghost use Rattle.site_folder.specs.Reading.{IsRefused};
 
 use crate::fault::IdentityFault;
 use crate::identity::{Identity, world_name};
 use crate::lines::{Told, read_lines};
 use itoa::Buffer;
+use sealed_text::sum_line;
 use std::alloc::{AllocError, Global};
 
 // The name of the format and its version: 1 for a world with no name of its own, else 2.
@@ -69,13 +70,27 @@ fn file_name(alloc: Global, version: &[u8], identity: &Identity) -> Result<Vec<u
     Ok(name)
 }
 
-/// The name with which the log of a site begins: three lines, each with a line feed at its end. No
-/// bytes begin with the names of two sites, as `names_tell_sites_apart` says. The error is want of
-/// memory. Costs the memory of the name.
+/// The name with which a log of version 1 of a site begins: three lines, each with a line feed at its
+/// end. No bytes begin with the names of two sites, as `names_tell_sites_apart` says. The error is want
+/// of memory. Costs the memory of the name.
 pub fn log_name(alloc: Global, identity: &Identity) -> Result<Vec<u8>, AllocError>
     ensures name { IfOk result (λ name. name.items ≡ log_name identity.now) }
 {
     file_name(alloc, b"escrow log 1", identity)
+}
+
+/// The name with which a log of version 2 of a site begins: five lines, each with a line feed at its
+/// end, the last of which tells the sum of the others. No bytes begin with the names of two sites, or
+/// with that of a log of version 1 too, as `names_tell_sites_apart` says. The error is want of memory.
+/// Costs a SHA-256 over the name, and its memory.
+pub fn sealed_log_name(alloc: Global, identity: &Identity) -> Result<Vec<u8>, AllocError>
+    ensures name { IfOk result (λ name. name.items ≡ sealed_log_name identity.now) }
+{
+    let mut name = file_name(alloc, b"escrow log 2", identity)?;
+    name.extend_from_slice(b"head 0 0\n")?;
+    let sum = sum_line(name.as_slice());
+    name.extend_from_slice(&sum)?;
+    Ok(name)
 }
 
 /// The name with which the trace of a site begins: three lines, each with a line feed at its end. No

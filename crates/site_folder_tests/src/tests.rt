@@ -1,8 +1,11 @@
 //! Worked texts of identities. The names of worlds were computed by `sha256sum` of the header without a
-//! line feed, and behind a line of the world's own name where it has one.
+//! line feed, and behind a line of the world's own name where it has one; the sums of names of logs are
+//! the first 16 digits that it tells of the lines before them.
 
 use field_bounds::{SchemaFault, SiteNo};
-use site_folder::{Identity, IdentityFault, log_name, read_identity, trace_name, write_identity};
+use site_folder::{
+    Identity, IdentityFault, log_name, read_identity, sealed_log_name, trace_name, write_identity,
+};
 use std::alloc::Global;
 use std::process::Abort;
 
@@ -256,6 +259,21 @@ fn names_files_of_a_named_world(rt: HostRuntime) {
     assert_text(&rt, log.as_slice(), NAMED_LOG_NAME);
     let trace = trace_name(rt.alloc(), &identity).expect(&rt, "memory");
     assert_text(&rt, trace.as_slice(), NAMED_TRACE_NAME);
+}
+
+/// The name of its log in version 2.
+const SEALED_LOG_NAME: &str = "escrow log 2
+number 1
+world abf6d0b2ae68513ab0fe4bdacf613f45ec8d357c35c7ad8bb3b851a559578afd
+head 0 0
+sum 0d9b9c43df54bb9e
+";
+
+#[test]
+fn names_a_sealed_log(rt: HostRuntime) {
+    let identity = named_of_text(&rt, rt.alloc());
+    let name = sealed_log_name(rt.alloc(), &identity).expect(&rt, "memory");
+    assert_text(&rt, name.as_slice(), SEALED_LOG_NAME);
 }
 
 /// Names that a world can have: the longest, the shortest, and one with each kind of byte.
