@@ -2,7 +2,7 @@
 
 use crate::fault::{Fault, Why, asked, failed, header_words, refused, unread};
 use crate::folder::Paths;
-use site_folder::{Identity, IdentityFault, log_name, write_identity};
+use site_folder::{Identity, IdentityFault, sealed_log_name, write_identity};
 use std::alloc::Global;
 use std::fs::File;
 use std::io::{ErrorKind, Write};
@@ -31,12 +31,7 @@ fn schema_fault(alloc: Global, schema: &str, number: u64, fault: IdentityFault) 
 }
 
 // The site of a number in the world of a schema's file and of this name.
-fn read_schema(
-    rt: &HostRuntime,
-    schema: &str,
-    number: u64,
-    name: &str,
-) -> Result<Identity, Fault> {
+fn read_schema(rt: &HostRuntime, schema: &str, number: u64, name: &str) -> Result<Identity, Fault> {
     let alloc = rt.alloc();
     let text = match fs::read(rt, schema) {
         Ok(text) => text,
@@ -79,7 +74,7 @@ pub(crate) fn write_file(rt: &HostRuntime, path: &str, text: &[u8]) -> Result<()
 // Writes the name of the log, and then, as the last of all, who the folder belongs to.
 fn write_files(rt: &HostRuntime, paths: &Paths, identity: &Identity) -> Result<(), Fault> {
     let alloc = rt.alloc();
-    let name = log_name(alloc, identity)?;
+    let name = sealed_log_name(alloc, identity)?;
     write_file(rt, paths.log.as_str(), name.as_slice())?;
     let text = write_identity(alloc, identity)?;
     write_file(rt, paths.site.as_str(), text.as_slice())
@@ -93,15 +88,15 @@ fn parent_of(path: &str) -> &str {
     }
 }
 
-/// Makes the names in a folder safe from a stop of the machine.
-pub(crate) fn sync_folder(rt: &HostRuntime, folder: &str) -> Result<(), Fault> {
-    let synced = match File::open(rt, folder) {
+/// Makes what a file holds, or the names in a folder, safe from a stop of the machine.
+pub(crate) fn sync_path(rt: &HostRuntime, path: &str) -> Result<(), Fault> {
+    let synced = match File::open(rt, path) {
         Ok(opened) => opened.sync_all(),
         Err(error) => Err(error),
     };
     match synced {
         Ok(()) => Ok(()),
-        Err(error) => Err(failed(rt.alloc(), folder, error)),
+        Err(error) => Err(failed(rt.alloc(), path, error)),
     }
 }
 
@@ -110,8 +105,8 @@ fn make_site(rt: &HostRuntime, paths: &Paths, identity: &Identity) -> Result<(),
     let folder = paths.folder.as_str();
     make_folder(rt, paths)?;
     write_files(rt, paths, identity)?;
-    sync_folder(rt, folder)?;
-    sync_folder(rt, parent_of(folder))
+    sync_path(rt, folder)?;
+    sync_path(rt, parent_of(folder))
 }
 
 /// Makes the folder of a site, with a log of no records, and makes it safe from a stop of the machine. A

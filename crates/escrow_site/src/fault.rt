@@ -38,6 +38,8 @@ pub(crate) enum Why {
     OtherLog,
     #[error("line {0} is no record of this site: put its own newest log back")]
     BadRecord(u64),
+    #[error("line {0}: the batch that begins there is damaged: put its own newest log back")]
+    DamagedBatch(u64),
     #[error("epoch {0}, length {1}: older than --not-before: put the newest log back")]
     Old(u64, u64),
     #[error("isn't there: only a site that was always served with --trace has one")]
@@ -91,6 +93,9 @@ pub(crate) enum Fault {
     /// The same, with the call that failed, what the system told, and what to do.
     #[error("{0}: device fault: {1}: {2}: nothing more is answered: {3}")]
     DeviceCall(String, &'static str, io::Error, &'static str),
+    /// A folder wasn't closed, though the header was written: a call at this path failed.
+    #[error("{0}: {1}: the folder isn't closed: {2}, and settle with --again before the header is used")]
+    NotClosed(String, io::Error, &'static str),
     #[error("{0}: in use: another process serves it")]
     Busy(String),
     /// No name of the world is given.
@@ -100,7 +105,7 @@ pub(crate) enum Fault {
     #[error("site {0}: isn't among the folders: name the folders of all sites of the world")]
     NoFolder(u16),
     /// The logs of the sites with these numbers are lost.
-    #[error("the logs of these sites are lost: {0}: put the newest ones back to settle")]
+    #[error("the logs of these sites are lost: {0}: nothing was closed: put the newest ones back to settle")]
     LogsLost(String),
     /// On this field the logs that are there have more rights than it is wide.
     #[error("field {0}: the logs have more rights than it is wide: one is older than what its site gave: put the newest ones back")]
@@ -141,7 +146,8 @@ impl Fault {
             | Fault::NotReadBack
             | Fault::AllSettled => 3,
             Fault::NoMemory => 4,
-            Fault::System(..) | Fault::Device(_) | Fault::DeviceCall(..) => 5,
+            Fault::System(..) | Fault::Device(_) | Fault::DeviceCall(..) | Fault::NotClosed(..) =>
+                5,
             Fault::Busy(_) => 6,
         }
     }
@@ -218,15 +224,40 @@ fn call_word(call: FileCall) -> &'static str {
     }
 }
 
-// What is to be done where a call of a file failed. A sync that failed is told once: what the system
-// has in memory may not be what the disk has, until the machine is started anew.
-fn remedy(call: FileCall, kind: ErrorKind) -> &'static str {
+// What is to be done where a call of a file failed.
+enum Remedy {
+    // A sync that failed is told once: what the system has in memory may not be what the disk has,
+    // until the machine is started anew.
+    NewStart,
+    Room,
+    Disk,
+}
+
+fn remedy_of(call: FileCall, kind: ErrorKind) -> Remedy {
     match (call, kind) {
-        (FileCall::Sync, _) => "start the machine anew before it is served again",
+        (FileCall::Sync, _) => Remedy::NewStart,
         (_, ErrorKind::StorageFull | ErrorKind::QuotaExceeded | ErrorKind::FileTooLarge) => {
-            "make room, and serve it again"
+            Remedy::Room
         }
-        (_, _) => "look after the disk, and serve it again",
+        (_, _) => Remedy::Disk,
+    }
+}
+
+// The remedy of a site that is served.
+fn serve_remedy(remedy: Remedy) -> &'static str {
+    match remedy {
+        Remedy::NewStart => "start the machine anew before it is served again",
+        Remedy::Room => "make room, and serve it again",
+        Remedy::Disk => "look after the disk, and serve it again",
+    }
+}
+
+// The remedy of a folder that isn't closed.
+fn close_remedy(remedy: Remedy) -> &'static str {
+    match remedy {
+        Remedy::NewStart => "start the machine anew",
+        Remedy::Room => "make room",
+        Remedy::Disk => "look after the disk",
     }
 }
 
@@ -234,8 +265,23 @@ fn remedy(call: FileCall, kind: ErrorKind) -> &'static str {
 pub(crate) fn with_call(fault: Fault, failed: Option<FileFault>) -> Fault {
     match (fault, failed) {
         (Fault::Device(path), Some(FileFault { call, error })) => {
-            let remedy = remedy(call, error.kind());
+            let remedy = serve_remedy(remedy_of(call, error.kind()));
             Fault::DeviceCall(path, call_word(call), error, remedy)
+        }
+        (fault, _) => fault,
+    }
+}
+
+/// The same of a folder that is to be closed, once the header of the new world was written.
+pub(crate) fn not_closed(fault: Fault, failed: Option<FileFault>) -> Fault {
+    match (fault, failed) {
+        (Fault::Device(path), Some(FileFault { call, error })) => {
+            let remedy = close_remedy(remedy_of(call, error.kind()));
+            Fault::NotClosed(path, error, remedy)
+        }
+        (Fault::System(path, error), _) => {
+            let remedy = close_remedy(remedy_of(FileCall::Write, error.kind()));
+            Fault::NotClosed(path, error, remedy)
         }
         (fault, _) => fault,
     }

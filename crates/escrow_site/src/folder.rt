@@ -8,7 +8,8 @@ use field_bounds::{Schema, SiteNo};
 use file_medium::{HostFile, OpenLogFault, Opening, open_log};
 use kept_records::{LogCount, count_log};
 use log_replay::{LogReplayed, replay_log};
-use site_folder::{Identity, IdentityFault, log_name, read_identity};
+use sealed_text::{TextFault, Unsealed, unseal};
+use site_folder::{Identity, IdentityFault, log_name, read_identity, sealed_log_name};
 use std::alloc::{AllocError, Global};
 use std::fs;
 use std::io::ErrorKind;
@@ -89,16 +90,56 @@ pub(crate) fn bad_record(alloc: Global, paths: &Paths, line: u64) -> Fault {
     refused(alloc, paths.log.as_str(), Why::BadRecord(line))
 }
 
-/// The records of a log's file, behind its name.
-pub(crate) fn behind_name<'a>(
+/// The records of a log.
+#[derive(Drop)]
+pub(crate) enum Records<'a> {
+    /// Those of version 1, as they stand in the file.
+    Plain(&'a [u8]),
+    /// Those of version 2 that sums close.
+    Unsealed(Unsealed),
+}
+
+impl Records<'_> {
+    pub(crate) fn as_slice(&self) -> &[u8] {
+        match self {
+            Records::Plain(records) => records,
+            Records::Unsealed(unsealed) => unsealed.records.as_slice(),
+        }
+    }
+}
+
+// How many lines the name of a log of version 2 has.
+const NAME_LINES: u64 = 5;
+
+/// The fault that a batch of the log is damaged, which begins at this line behind the log's name.
+pub(crate) fn damaged_batch(alloc: Global, paths: &Paths, line: u64) -> Fault {
+    let why = Why::DamagedBatch(line.saturating_add(NAME_LINES));
+    refused(alloc, paths.log.as_str(), why)
+}
+
+// The records of a log of version 2, behind its name.
+fn unseal_log(alloc: Global, paths: &Paths, text: &[u8]) -> Result<Unsealed, Fault> {
+    match unseal(alloc, text) {
+        Ok(unsealed) => Ok(unsealed),
+        Err(TextFault::Damaged { line }) => Err(damaged_batch(alloc, paths, line)),
+        Err(TextFault::NoMemory) => Err(Fault::NoMemory),
+    }
+}
+
+/// The records of a log's file, behind its name, which tells its version.
+pub(crate) fn records_in<'a>(
     alloc: Global,
     paths: &Paths,
     identity: &Identity,
     bytes: &'a [u8],
-) -> Result<&'a [u8], Fault> {
+) -> Result<Records<'a>, Fault> {
+    let name = sealed_log_name(alloc, identity)?;
+    if let Some(text) = bytes.strip_prefix(name.as_slice()) {
+        return Ok(Records::Unsealed(unseal_log(alloc, paths, text)?));
+    }
     let name = log_name(alloc, identity)?;
     match bytes.strip_prefix(name.as_slice()) {
-        Some(records) => Ok(records),
+        Some(records) => Ok(Records::Plain(records)),
         None => Err(refused(alloc, paths.log.as_str(), Why::OtherLog)),
     }
 }
@@ -112,8 +153,8 @@ pub(crate) fn count_records(
 ) -> Result<LogCount, Fault> {
     let alloc = rt.alloc();
     let bytes = read_file(rt, paths.log.as_str(), Why::NoLog)?;
-    let records = behind_name(alloc, paths, identity, bytes.as_slice())?;
-    let count = count_log(alloc, records)?;
+    let records = records_in(alloc, paths, identity, bytes.as_slice())?;
+    let count = count_log(alloc, records.as_slice())?;
     match count.bad_line {
         Some(line) => Err(bad_record(alloc, paths, line)),
         None => Ok(count),
@@ -134,8 +175,8 @@ pub(crate) fn replay_folder(
 {
     let alloc = rt.alloc();
     let bytes = read_file(rt, paths.log.as_str(), Why::NoLog)?;
-    let records = behind_name(alloc, paths, identity, bytes.as_slice())?;
-    Ok(replay_log(alloc, schema, site, records)?)
+    let records = records_in(alloc, paths, identity, bytes.as_slice())?;
+    Ok(replay_log(alloc, schema, site, records.as_slice())?)
 }
 
 /// Why a file wasn't opened, as a fault at its path; or why it is refused where it isn't there.
@@ -157,13 +198,5 @@ pub(crate) fn lock_log(rt: &HostRuntime, paths: &Paths) -> Result<HostFile, Faul
     match open_log(rt, paths.log.as_str(), Opening::Existing) {
         Ok(log) => Ok(log),
         Err(fault) => Err(file_fault(rt.alloc(), paths.log.as_str(), fault, Why::NoLog)),
-    }
-}
-
-/// Whether the world of the folder's site was settled, so that the site is never served again.
-pub(crate) fn is_settled(rt: &HostRuntime, paths: &Paths) -> Result<bool, Fault> {
-    match fs::exists(rt, paths.settled.as_str()) {
-        Ok(is_there) => Ok(is_there),
-        Err(error) => Err(failed(rt.alloc(), paths.settled.as_str(), error)),
     }
 }

@@ -3,6 +3,7 @@
 #![tactic(auto)]
 
 mod checking;
+mod closing;
 mod creating;
 mod fault;
 mod folder;
@@ -40,7 +41,7 @@ fn carry_out(rt: &HostRuntime, task: &Task) -> Result<(), Fault> {
 
 // Which versions of files are read, and which are made. A folder keeps its own for life.
 const VERSIONS: &str =
-    "escrow_site: reads site 1 2, log 1, trace 1; makes site 2, log 1, trace 1; answers ready 1";
+    "escrow_site: reads site 1 2, log 1 2, trace 1; makes site 2, log 2, trace 1; answers ready 1";
 
 fn tell_version(rt: &impl Print) -> Result<(), Fault> {
     match println!(rt; "{VERSIONS}") {

@@ -1,32 +1,17 @@
 //! The command `serve`.
 
+use crate::closing::{is_settled, open_named, open_sealed, settled_fault};
 use crate::fault::{Fault, Why, device_fault, refused, with_call};
-use crate::folder::{Paths, behind_name, is_settled, lock_log, read_file, read_site};
+use crate::folder::{Paths, lock_log, read_file, read_site, records_in};
 use crate::tracing::trace_for;
 use crate::unsynced::{TellsFault, UnsyncedFile};
 use file_medium::{FileFault, HostFile, LogFile};
 use log_stand::{Stand, stand_of};
-use named_log::{NameFault, NamedLog};
 use script_input::{Sink, Source, Watched};
-use site_folder::{Identity, log_name};
+use site_folder::{Identity, log_name, sealed_log_name};
 use site_service::{NoTrace, OpenFault, ServeFault, Service, serve};
 use site_tasks::Serving;
 use std::alloc::Global;
-
-// The log of the site in a file, which has to begin with its name.
-fn open_named<F: LogFile + Drop>(
-    alloc: Global,
-    paths: &Paths,
-    identity: &Identity,
-    file: F,
-) -> Result<NamedLog<F>, Fault> {
-    let name = log_name(alloc, identity)?;
-    match NamedLog::open(file, name.as_slice()) {
-        Ok(log) => Ok(log),
-        Err(NameFault::Other) => Err(refused(alloc, paths.log.as_str(), Why::OtherLog)),
-        Err(NameFault::Device) => Err(device_fault(alloc, paths.log.as_str())),
-    }
-}
 
 // How far the log has come that a file holds.
 fn stand_in(
@@ -35,8 +20,8 @@ fn stand_in(
     identity: &Identity,
     bytes: &[u8],
 ) -> Result<Stand, Fault> {
-    let records = behind_name(alloc, paths, identity, bytes)?;
-    Ok(stand_of(alloc, records)?)
+    let records = records_in(alloc, paths, identity, bytes)?;
+    Ok(stand_of(alloc, records.as_slice())?)
 }
 
 // Refuses a log that is older than was seen of it before. It stays as it is.
@@ -150,7 +135,72 @@ fn serve_log<F: LogFile + Drop, T: LogFile>(
     serve_streams(alloc, paths, &mut service, trace, &mut reader, &mut writer)
 }
 
-// Serves the site over its files, which are lent, unless the log is another one.
+// Serves the site over a log, and over its trace where it has one.
+fn serve_traced<F: LogFile + Drop, T: LogFile>(
+    rt: &HostRuntime,
+    paths: &Paths,
+    identity: &Identity,
+    log: F,
+    trace: &mut Option<T>,
+) -> Result<(), Fault> {
+    match trace {
+        Some(trace) => serve_log(rt, paths, identity, log, trace),
+        None => serve_log(rt, paths, identity, log, &mut NoTrace),
+    }
+}
+
+// Why the serving ended over a log of closed batches: where no call of a file failed, memory was
+// wanting for a batch.
+fn sealed_fault<F: TellsFault>(fault: Fault, is_lost: bool, trace: &mut Option<F>) -> Fault {
+    match fault {
+        Fault::Device(path) if !is_lost => match trace_call(trace) {
+            Some(failed) => with_call(Fault::Device(path), Some(failed)),
+            None => Fault::NoMemory,
+        },
+        fault => fault,
+    }
+}
+
+// Serves the site over a log of version 2, or tells that the file holds none of this site.
+fn serve_sealed<F: TellsFault>(
+    rt: &HostRuntime,
+    paths: &Paths,
+    identity: &Identity,
+    file: &mut F,
+    trace: &mut Option<F>,
+) -> Result<bool, Fault> {
+    let alloc = rt.alloc();
+    let name = sealed_log_name(alloc, identity)?;
+    let Some(log) = open_named(alloc, paths, file, name.as_slice())? else {
+        return Ok(false);
+    };
+    let Some(mut log) = open_sealed(alloc, paths, log)? else {
+        return Err(settled_fault(alloc, paths));
+    };
+    match serve_traced(rt, paths, identity, &mut log, trace) {
+        Ok(()) => Ok(true),
+        Err(fault) => Err(sealed_fault(fault, log.is_lost(), trace)),
+    }
+}
+
+// Serves the site over a log of version 1.
+fn serve_plain<F: TellsFault>(
+    rt: &HostRuntime,
+    paths: &Paths,
+    identity: &Identity,
+    file: &mut F,
+    trace: &mut Option<F>,
+) -> Result<(), Fault> {
+    let alloc = rt.alloc();
+    let name = log_name(alloc, identity)?;
+    match open_named(alloc, paths, file, name.as_slice())? {
+        Some(log) => serve_traced(rt, paths, identity, log, trace),
+        None => Err(refused(alloc, paths.log.as_str(), Why::OtherLog)),
+    }
+}
+
+// Serves the site over its files, which are lent, unless the log is another one. Its version is told
+// by the first line of its name.
 fn serve_lent<F: TellsFault>(
     rt: &HostRuntime,
     paths: &Paths,
@@ -158,19 +208,25 @@ fn serve_lent<F: TellsFault>(
     file: &mut F,
     trace: &mut Option<F>,
 ) -> Result<(), Fault> {
-    let log = open_named(rt.alloc(), paths, identity, file)?;
+    if serve_sealed(rt, paths, identity, file, trace)? {
+        return Ok(());
+    }
+    serve_plain(rt, paths, identity, file, trace)
+}
+
+// The call of the trace that failed last.
+fn trace_call<F: TellsFault>(trace: &mut Option<F>) -> Option<FileFault> {
     match trace {
-        Some(trace) => serve_log(rt, paths, identity, log, trace),
-        None => serve_log(rt, paths, identity, log, &mut NoTrace),
+        Some(trace) => trace.take_fault(),
+        None => None,
     }
 }
 
 // The call that failed last, of the log, or of the trace where none of the log's did.
 fn failed_call<F: TellsFault>(file: &mut F, trace: &mut Option<F>) -> Option<FileFault> {
-    match (file.take_fault(), trace) {
-        (Some(failed), _) => Some(failed),
-        (None, Some(trace)) => trace.take_fault(),
-        (None, None) => None,
+    match file.take_fault() {
+        Some(failed) => Some(failed),
+        None => trace_call(trace),
     }
 }
 
@@ -222,7 +278,7 @@ fn trace_beside(
 // so none is settled meanwhile.
 fn refuse_settled(rt: &HostRuntime, paths: &Paths) -> Result<(), Fault> {
     if is_settled(rt, paths)? {
-        return Err(refused(rt.alloc(), paths.folder.as_str(), Why::Settled));
+        return Err(settled_fault(rt.alloc(), paths));
     }
     Ok(())
 }

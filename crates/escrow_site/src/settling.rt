@@ -5,10 +5,10 @@ ghost use Rattle.world_logs.specs.LostBody.{StandsIfKnown, AreForKnownLogs};
 ghost use Rattle.world_logs.specs.Outcomes.{IsOutcome, AreOutcomes};
 
 use crate::checking::{logs_fault, read_outcome, read_standings};
-use crate::creating::{sync_folder, write_file};
+use crate::closing::{close_folder, is_settled};
 use crate::fault::{Fault, failed};
-use crate::folder::{is_settled, lock_log};
-use crate::worlds::{SiteFolder, World, read_world};
+use crate::folder::lock_log;
+use crate::worlds::{World, read_world};
 use field_bounds::{FieldNo, Schema, SiteNo};
 use file_medium::HostFile;
 use log_replay::Standing;
@@ -153,9 +153,6 @@ fn bound_logs(rt: &HostRuntime, world: &World, lost: &[SiteNo]) -> Result<(), Fa
     }
 }
 
-// What stands in the file of a folder that was closed, for people: that it is there is what counts.
-const SETTLED: &[u8] = b"escrow settled 1\n";
-
 // The logs of all sites, locked as long as these live: so none is served meanwhile, nor was when they
 // were locked.
 fn lock_logs(rt: &HostRuntime, world: &World) -> Result<Vec<HostFile>, Fault> {
@@ -178,19 +175,11 @@ fn are_settled(rt: &HostRuntime, world: &World) -> Result<bool, Fault> {
     Ok(true)
 }
 
-// Closes the folder of a site, unless it was before.
-fn close_folder(rt: &HostRuntime, folder: &SiteFolder) -> Result<(), Fault> {
-    if is_settled(rt, &folder.paths)? {
-        return Ok(());
-    }
-    write_file(rt, folder.paths.settled.as_str(), SETTLED)?;
-    sync_folder(rt, folder.paths.folder.as_str())
-}
-
-// Closes the folders of all sites.
-fn close_folders(rt: &HostRuntime, world: &World) -> Result<(), Fault> {
-    for number in 0..world.schema.sites() {
-        close_folder(rt, world.named_folder(SiteNo(number))?)?;
+// Closes the folders of all sites, whose logs are locked by these files, in their order.
+fn close_folders(rt: &HostRuntime, world: &World, locked: &mut [HostFile]) -> Result<(), Fault> {
+    for (number, file) in locked.iter_mut().enumerate() {
+        let site = SiteNo(number as u16);
+        close_folder(rt, world.named_folder(site)?, file)?;
     }
     Ok(())
 }
@@ -201,12 +190,12 @@ fn end_world(rt: &HostRuntime, world: &World, how: Settling) -> Result<(), Fault
     if how.is_dry {
         return settle_logs(rt, world);
     }
-    let _locked = lock_logs(rt, world)?;
+    let mut locked = lock_logs(rt, world)?;
     if !how.is_again && are_settled(rt, world)? {
         return Err(Fault::AllSettled);
     }
     settle_logs(rt, world)?;
-    close_folders(rt, world)
+    close_folders(rt, world, locked.as_mut_slice())
 }
 
 /// Writes the header of a new world that goes on where the logs of all sites of a world end, and closes

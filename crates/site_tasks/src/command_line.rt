@@ -28,8 +28,7 @@ line or the schema is refused; 3 a folder or a log is refused; 4 out of memory;
 const CREATE_ABOUT: &str = "Makes the folder of a site, with an empty log";
 
 // The line of clap's own has no `--name`, since a call without it is told more than clap tells.
-const CREATE_USAGE: &str =
-    "escrow_site create --schema <FILE> --site <N> --name <NAME> <FOLDER>";
+const CREATE_USAGE: &str = "escrow_site create --schema <FILE> --site <N> --name <NAME> <FOLDER>";
 
 const CREATE_EXAMPLE: &str = "\
 FILE has one line, the JSON header: the number of sites, 1 to 64, and 1 to 256

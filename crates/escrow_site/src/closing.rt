@@ -1,0 +1,166 @@
+//! Folders whose world was settled: no site is ever served over them again.
+
+use crate::creating::{sync_path, write_file};
+use crate::fault::{Fault, Why, device_fault, failed, not_closed, refused};
+use crate::folder::{Paths, damaged_batch};
+use crate::worlds::SiteFolder;
+use file_medium::{FileFailed, HostFile, LogFile};
+use named_log::{NameFault, NamedLog};
+use sealed_log::{SealFault, SealedLog};
+use sealed_text::{end_batch, sum_line};
+use site_folder::sealed_log_name;
+use std::alloc::Global;
+use std::fs::File;
+use std::os::unix::fs::FileExt;
+use std::{fs, io};
+
+// What stands in the file of a folder that was closed, for people: that it is there is what counts.
+const SETTLED: &[u8] = b"escrow settled 1\n";
+
+// The first line of a log of version 2, and how many bytes it has.
+const SEALED: &[u8] = b"escrow log 2\n";
+
+const SEALED_LENGTH: usize = 13;
+
+// How many bytes the batch that ends a world has with its sum.
+const END: usize = 23;
+
+// Whether the bytes are the batch that ends a world, and its sum.
+fn is_end(bytes: &[u8]) -> bool {
+    let sum = sum_line(end_batch());
+    match bytes.strip_prefix(end_batch()) {
+        Some(line) => line == sum.as_slice(),
+        None => false,
+    }
+}
+
+// Whether a log is of version 2, and ends as that of a world that was settled.
+fn is_ended(rt: &HostRuntime, path: &str) -> io::Result<bool> {
+    let file = File::open(rt, path)?;
+    let Some(at) = file.metadata()?.len().checked_sub(END as u64) else {
+        return Ok(false);
+    };
+    let mut first = [0u8; SEALED_LENGTH];
+    let mut last = [0u8; END];
+    file.read_exact_at(&mut first, 0)?;
+    file.read_exact_at(&mut last, at)?;
+    Ok(first.as_slice() == SEALED && is_end(&last))
+}
+
+// Whether the file is there that closes a folder with a log of version 1.
+fn has_settled(rt: &HostRuntime, paths: &Paths) -> Result<bool, Fault> {
+    match fs::exists(rt, paths.settled.as_str()) {
+        Ok(is_there) => Ok(is_there),
+        Err(error) => Err(failed(rt.alloc(), paths.settled.as_str(), error)),
+    }
+}
+
+/// Whether the world of the folder's site was settled, so that the site is never served again. The log
+/// is there. Reads its first and its last bytes.
+pub(crate) fn is_settled(rt: &HostRuntime, paths: &Paths) -> Result<bool, Fault> {
+    if has_settled(rt, paths)? {
+        return Ok(true);
+    }
+    match is_ended(rt, paths.log.as_str()) {
+        Ok(is_ended) => Ok(is_ended),
+        Err(error) => Err(failed(rt.alloc(), paths.log.as_str(), error)),
+    }
+}
+
+/// The fault that the folder was closed.
+pub(crate) fn settled_fault(alloc: Global, paths: &Paths) -> Fault {
+    refused(alloc, paths.folder.as_str(), Why::Settled)
+}
+
+/// The log in a file that begins with this name, or None where it begins with other bytes.
+pub(crate) fn open_named<F: LogFile + Drop>(
+    alloc: Global,
+    paths: &Paths,
+    file: F,
+    name: &[u8],
+) -> Result<Option<NamedLog<F>>, Fault> {
+    match NamedLog::open(file, name) {
+        Ok(log) => Ok(Some(log)),
+        Err(NameFault::Other) => Ok(None),
+        Err(NameFault::Device) => Err(device_fault(alloc, paths.log.as_str())),
+    }
+}
+
+/// The log of closed batches behind a name, or None where its world was ended.
+pub(crate) fn open_sealed<F: LogFile + Drop>(
+    alloc: Global,
+    paths: &Paths,
+    log: NamedLog<F>,
+) -> Result<Option<SealedLog<NamedLog<F>>>, Fault> {
+    match SealedLog::open(alloc, log) {
+        Ok(log) => Ok(Some(log)),
+        Err(SealFault::Damaged { line }) => Err(damaged_batch(alloc, paths, line)),
+        Err(SealFault::Ended) => Ok(None),
+        Err(SealFault::Device) => Err(device_fault(alloc, paths.log.as_str())),
+        Err(SealFault::NoMemory) => Err(Fault::NoMemory),
+    }
+}
+
+// Ends the world in a log of version 2, unless it was ended before.
+fn end_sealed<F: LogFile + Drop>(
+    alloc: Global,
+    paths: &Paths,
+    log: NamedLog<F>,
+) -> Result<(), Fault> {
+    let Some(mut log) = open_sealed(alloc, paths, log)? else {
+        return Ok(());
+    };
+    match log.end() {
+        Ok(()) => Ok(()),
+        Err(FileFailed) if log.is_lost() => Err(device_fault(alloc, paths.log.as_str())),
+        Err(FileFailed) => Err(Fault::NoMemory),
+    }
+}
+
+// Ends the world in the log of a folder, and tells whether it is of version 2: else it can't be.
+fn end_log(alloc: Global, folder: &SiteFolder, file: &mut HostFile) -> Result<bool, Fault> {
+    let name = sealed_log_name(alloc, &folder.identity)?;
+    match open_named(alloc, &folder.paths, file, name.as_slice())? {
+        Some(log) => {
+            end_sealed(alloc, &folder.paths, log)?;
+            Ok(true)
+        }
+        None => Ok(false),
+    }
+}
+
+// Closes a folder with a log of version 1 by a file beside it. One that is there may not be safe yet.
+fn leave_settled(rt: &HostRuntime, paths: &Paths) -> Result<(), Fault> {
+    let path = paths.settled.as_str();
+    if has_settled(rt, paths)? {
+        sync_path(rt, path)?;
+    } else {
+        write_file(rt, path, SETTLED)?;
+    }
+    sync_path(rt, paths.folder.as_str())
+}
+
+// The same in either version.
+fn close_by_version(
+    rt: &HostRuntime,
+    folder: &SiteFolder,
+    file: &mut HostFile,
+) -> Result<(), Fault> {
+    if end_log(rt.alloc(), folder, file)? {
+        return Ok(());
+    }
+    leave_settled(rt, &folder.paths)
+}
+
+/// Closes the folder of a site, whose log is locked by this file, unless it was closed before. It is
+/// safe then from a stop of the machine.
+pub(crate) fn close_folder(
+    rt: &HostRuntime,
+    folder: &SiteFolder,
+    file: &mut HostFile,
+) -> Result<(), Fault> {
+    match close_by_version(rt, folder, file) {
+        Ok(()) => Ok(()),
+        Err(fault) => Err(not_closed(fault, file.take_fault())),
+    }
+}
