@@ -2,11 +2,11 @@
 
 use crate::creating::{sync_path, write_file};
 use crate::fault::{Fault, Why, device_fault, failed, not_closed, refused};
-use crate::folder::{Paths, damaged_batch};
+use crate::folder::Paths;
+use crate::opening::{open_named, open_sealed};
 use crate::worlds::SiteFolder;
 use file_medium::{FileFailed, HostFile, LogFile};
-use named_log::{NameFault, NamedLog};
-use sealed_log::{SealFault, SealedLog};
+use named_log::NamedLog;
 use sealed_text::{end_batch, sum_line};
 use site_folder::sealed_log_name;
 use std::alloc::Global;
@@ -70,35 +70,6 @@ pub(crate) fn is_settled(rt: &HostRuntime, paths: &Paths) -> Result<bool, Fault>
 /// The fault that the folder was closed.
 pub(crate) fn settled_fault(alloc: Global, paths: &Paths) -> Fault {
     refused(alloc, paths.folder.as_str(), Why::Settled)
-}
-
-/// The log in a file that begins with this name, or None where it begins with other bytes.
-pub(crate) fn open_named<F: LogFile + Drop>(
-    alloc: Global,
-    paths: &Paths,
-    file: F,
-    name: &[u8],
-) -> Result<Option<NamedLog<F>>, Fault> {
-    match NamedLog::open(file, name) {
-        Ok(log) => Ok(Some(log)),
-        Err(NameFault::Other) => Ok(None),
-        Err(NameFault::Device) => Err(device_fault(alloc, paths.log.as_str())),
-    }
-}
-
-/// The log of closed batches behind a name, or None where its world was ended.
-pub(crate) fn open_sealed<F: LogFile + Drop>(
-    alloc: Global,
-    paths: &Paths,
-    log: NamedLog<F>,
-) -> Result<Option<SealedLog<NamedLog<F>>>, Fault> {
-    match SealedLog::open(alloc, log) {
-        Ok(log) => Ok(Some(log)),
-        Err(SealFault::Damaged { line }) => Err(damaged_batch(alloc, paths, line)),
-        Err(SealFault::Ended) => Ok(None),
-        Err(SealFault::Device) => Err(device_fault(alloc, paths.log.as_str())),
-        Err(SealFault::NoMemory) => Err(Fault::NoMemory),
-    }
 }
 
 // Ends the world in a log of version 2, unless it was ended before.

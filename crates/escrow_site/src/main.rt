@@ -7,6 +7,7 @@ mod closing;
 mod creating;
 mod fault;
 mod folder;
+mod opening;
 mod progress;
 mod serving;
 mod settling;

@@ -1,8 +1,9 @@
 //! The command `serve`.
 
-use crate::closing::{is_settled, open_named, open_sealed, settled_fault};
+use crate::closing::{is_settled, settled_fault};
 use crate::fault::{Fault, Why, device_fault, refused, with_call};
 use crate::folder::{Paths, lock_log, read_file, read_site, records_in};
+use crate::opening::{open_named, open_sealed};
 use crate::tracing::trace_for;
 use crate::unsynced::{TellsFault, UnsyncedFile};
 use file_medium::{FileFault, HostFile, LogFile};

@@ -1,0 +1,38 @@
+//! The log of a folder, opened to be added to: behind its name, and in version 2 in batches that sums
+//! close.
+
+use crate::fault::{Fault, device_fault};
+use crate::folder::{Paths, damaged_batch};
+use file_medium::LogFile;
+use named_log::{NameFault, NamedLog};
+use sealed_log::{SealFault, SealedLog};
+use std::alloc::Global;
+
+/// The log in a file that begins with this name, or None where it begins with other bytes.
+pub(crate) fn open_named<F: LogFile + Drop>(
+    alloc: Global,
+    paths: &Paths,
+    file: F,
+    name: &[u8],
+) -> Result<Option<NamedLog<F>>, Fault> {
+    match NamedLog::open(file, name) {
+        Ok(log) => Ok(Some(log)),
+        Err(NameFault::Other) => Ok(None),
+        Err(NameFault::Device) => Err(device_fault(alloc, paths.log.as_str())),
+    }
+}
+
+/// The log of closed batches behind a name, or None where its world was ended.
+pub(crate) fn open_sealed<F: LogFile + Drop>(
+    alloc: Global,
+    paths: &Paths,
+    log: NamedLog<F>,
+) -> Result<Option<SealedLog<NamedLog<F>>>, Fault> {
+    match SealedLog::open(alloc, log) {
+        Ok(log) => Ok(Some(log)),
+        Err(SealFault::Damaged { line }) => Err(damaged_batch(alloc, paths, line)),
+        Err(SealFault::Ended) => Ok(None),
+        Err(SealFault::Device) => Err(device_fault(alloc, paths.log.as_str())),
+        Err(SealFault::NoMemory) => Err(Fault::NoMemory),
+    }
+}
