@@ -28,9 +28,11 @@ sealed_text (batch ∷ batches) = sealed_batch batch ++ sealed_text batches
 abbrev pub end_batch : List ℕ
 end_batch = codes "X" ++ 10 ∷ []
 
--- One of the bytes `A-Z`, `0-9`, space, `-` and line feed: all that records are spelled with.
+-- One of the bytes `A-Z`, `0-9`, space, `-`, line feed, `a`, `g`, `l`, `r` and `t`: all that records are spelled with.
 unfoldable pub is_batch_byte : ℕ → Bool
-is_batch_byte b = (nat_le 65 b && nat_le b 90) || (nat_le 48 b && nat_le b 57) || (b == 32) || (b == 45) || (b == 10)
+is_batch_byte b =
+    (nat_le 65 b && nat_le b 90) || (nat_le 48 b && nat_le b 57) || (b == 32) || (b == 45) || (b == 10)
+    || (b == 97) || (b == 103) || (b == 108) || (b == 114) || (b == 116)
 
 -- The bytes end in a line feed.
 pub record EndsInLineFeed (bytes : List ℕ) : Type 0 where

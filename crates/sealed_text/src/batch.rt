@@ -34,6 +34,7 @@ fn is_batch_byte(byte: u8) -> bool
     ensures { result ≡ is_batch_byte byte }
 {
     matches!(byte, b'A'..=b'Z' | b'0'..=b'9' | b' ' | b'-' | b'\n')
+        || matches!(byte, b'a' | b'g' | b'l' | b'r' | b't')
 }
 
 // Whether records are spelled with each of the bytes.
@@ -43,8 +44,8 @@ pub(crate) fn are_batch_bytes(bytes: &[u8]) -> bool
     bytes.iter().all(|byte| is_batch_byte(*byte))
 }
 
-/// Whether the bytes are a batch: one or more bytes, each of `A-Z`, `0-9`, space, `-` and line feed,
-/// of which the last one is a line feed. Costs a pass over the bytes.
+/// Whether the bytes are a batch: one or more bytes, each of `A-Z`, `0-9`, space, `-`, line feed, `a`,
+/// `g`, `l`, `r` and `t`, of which the last one is a line feed. Costs a pass over the bytes.
 pub fn is_batch(bytes: &[u8]) -> bool
     ensures decides { IsTrue result ↔ IsBatch bytes.now }
 {

@@ -102,13 +102,14 @@ fn a_batch_ends_in_a_line_feed(rt: HostRuntime) {
     let answers = [
         is_batch(b"AZ09 -\n\n"),
         is_batch(b"\n"),
+        is_batch(b"S 1 1 20 30 g 1 0 l 5 a 1 0 r 3 t 0 l 7\n"),
         !is_batch(b""),
         !is_batch(b"R 1"),
         !is_batch(b"R 1\nR"),
-        !is_batch(b"R a\n"),
+        !is_batch(b"R s\n"),
         !is_batch(b"R 1.\n"),
     ];
-    assert_eq!(&rt; answers, [true; 7]);
+    assert_eq!(&rt; answers, [true; 8]);
 }
 
 #[test]
