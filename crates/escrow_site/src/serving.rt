@@ -9,6 +9,7 @@ use crate::unsynced::{TellsFault, UnsyncedFile};
 use file_medium::{FileFault, HostFile, LogFile};
 use log_stand::{Stand, stand_of};
 use script_input::{Sink, Source, Watched};
+use sealed_log::SealedLog;
 use site_folder::{Identity, log_name, sealed_log_name};
 use site_service::{NoTrace, OpenFault, ServeFault, Service, serve};
 use site_tasks::Serving;
@@ -162,6 +163,20 @@ fn sealed_fault<F: TellsFault>(fault: Fault, is_lost: bool, trace: &mut Option<F
     }
 }
 
+// Serves the site over a log of closed batches.
+fn serve_batches<L: LogFile, F: TellsFault>(
+    rt: &HostRuntime,
+    paths: &Paths,
+    identity: &Identity,
+    log: &mut SealedLog<L>,
+    trace: &mut Option<F>,
+) -> Result<(), Fault> {
+    match serve_traced(rt, paths, identity, &mut *log, trace) {
+        Ok(()) => Ok(()),
+        Err(fault) => Err(sealed_fault(fault, log.is_lost(), trace)),
+    }
+}
+
 // Serves the site over a log of version 2, or tells that the file holds none of this site.
 fn serve_sealed<F: TellsFault>(
     rt: &HostRuntime,
@@ -178,10 +193,8 @@ fn serve_sealed<F: TellsFault>(
     let Some(mut log) = open_sealed(alloc, paths, log)? else {
         return Err(settled_fault(alloc, paths));
     };
-    match serve_traced(rt, paths, identity, &mut log, trace) {
-        Ok(()) => Ok(true),
-        Err(fault) => Err(sealed_fault(fault, log.is_lost(), trace)),
-    }
+    serve_batches(rt, paths, identity, &mut log, trace)?;
+    Ok(true)
 }
 
 // Serves the site over a log of version 1.

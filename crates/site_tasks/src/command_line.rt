@@ -97,7 +97,7 @@ const SETTLE_EXAMPLE: &str = "\
 The folders are the sites' own, no copies, of stopped sites. They are checked as by
 `check`. Each field of the new world has its committed value, and its bounds as they
 were tightened; what was in flight is the new sites'. Then each folder is closed, by
-a file `settled` in it: no site of it is ever served again, so that nothing is sold
+the end of its log: no site of it is ever served again, so that nothing is sold
 twice. Until it has ended with status 0 the header isn't to be used: settle again.
 
 Where logs are lost, a folder that isn't named or has no log, it writes no header,
