@@ -1,7 +1,7 @@
 """A client of a served site of escrow: quantities that never pass a bound.
 
     import escrow
-    escrow.create("shop0", "world.json", 0)         # once
+    escrow.create("shop0", "world.json", 0, name="shops-2026")      # once
     with escrow.Site("shop0") as site:
         with site.transaction() as t:
             t.lower("stock", 3)

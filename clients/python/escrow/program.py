@@ -13,6 +13,11 @@ from .schema import Schema
 from .values import Interval, Kind, Mark, Share
 
 Path = Union[str, "os.PathLike[str]"]
+NAMELESS = (
+    "create() wants name=, the world's own, the same for all of its sites and no other world's: without it worlds of one "
+    "schema are one world to carriers, and rights of the one would be spent in the other"
+)
+"""Why no world is made without a name."""
 
 
 def find_program() -> str:
@@ -48,12 +53,13 @@ def create(folder: Path, schema: Union[Schema, Path], number: int, program: Opti
     """Makes the folder of a site: once for each site of a world, and never again.
 
     `schema` is that of the world, or the path of a file that has its header, and `name` is the world's own: 1 to 64 of
-    `a-z A-Z 0-9 . _ -`, the same for all of its sites, and no other world's. Worlds of one schema without a name are one
-    world to carriers, and rights of the one would be spent in the other. Raises `ProgramError`: with status 3 where
-    something is at the path, with 2 where the schema or the name is refused or the world hasn't the site.
+    `a-z A-Z 0-9 . _ -`, the same for all of its sites, and no other world's. Raises `TypeError` where there is none, and
+    `ProgramError`: with status 3 where something is at the path, with 2 where the schema or the name is refused or the
+    world hasn't the site.
     """
-    named = [] if name is None else ["--name", name]
-    words = ["create", os.fspath(folder), *named, "--site", str(number), "--schema"]
+    if name is None:
+        raise TypeError(NAMELESS)
+    words = ["create", os.fspath(folder), "--name", name, "--site", str(number), "--schema"]
     if isinstance(schema, Schema):
         run(program, [*words, "/dev/stdin"], schema.line() + "\n")
     else:

@@ -22,6 +22,8 @@ if PACKAGES not in sys.path:
 
 import escrow  # noqa: E402
 
+WORLD = "test"
+"""The name of the tests' worlds."""
 Act = Callable[[], object]
 Changes = tuple[tuple[str, int], ...]
 """Fields and changes, in the order in which they were set aside."""
@@ -54,7 +56,7 @@ class SiteTest(unittest.TestCase):
     def folder(self, schema: escrow.Schema = SHOP, number: int = 0, name: str = "shop") -> str:
         """A new folder of this site."""
         path = os.path.join(self.place, name)
-        escrow.create(path, schema, number, program=escrow_site())
+        escrow.create(path, schema, number, program=escrow_site(), name=WORLD)
         return path
 
     def served(self, folder: str, **options: object) -> escrow.Site:

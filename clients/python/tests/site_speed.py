@@ -68,7 +68,7 @@ def served(place: str, tasks: int, seconds: float, sell: Sell = change, metrics:
         await asyncio.gather(*(sells(shop, end) for _ in range(tasks)))
 
     folder = os.path.join(place, "client")
-    escrow.create(folder, WORLD, 0, program=escrow_site())
+    escrow.create(folder, WORLD, 0, program=escrow_site(), name="speed")
     with escrow.Site(folder, program=escrow_site(), metrics=Metrics(0) if metrics else None) as site:
         began, computed = time.perf_counter(), time.process_time()
         asyncio.run(all_sell(site))

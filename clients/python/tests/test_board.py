@@ -60,7 +60,8 @@ def create(at: str, header: str = HEADER, sites: int = 3) -> list[str]:
         file.write(header + "\n")
     folders = [os.path.join(at, f"shop{number}") for number in range(sites)]
     for number, folder in enumerate(folders):
-        subprocess.run([PROGRAM, "create", folder, "--schema", schema, "--site", str(number)], check=True, timeout=30)
+        words = [PROGRAM, "create", folder, "--schema", schema, "--site", str(number), "--name", "board"]
+        subprocess.run(words, check=True, timeout=30)
     return folders
 
 

@@ -37,7 +37,7 @@ class Sites(unittest.TestCase):
 
     def site(self, number: int) -> Site:
         folder = os.path.join(self.folder, f"shop{number}")
-        create(folder, SHOPS, number)
+        create(folder, SHOPS, number, name="shops")
         site = Site(folder, trace=True)
         self.addCleanup(site.close)
         return site

@@ -337,7 +337,7 @@ class OverASite(unittest.TestCase):
         with tempfile.TemporaryDirectory() as at:
             folder, numbers = os.path.join(at, "shop"), Metrics(0)
             schema = escrow.Schema(2, (escrow.Field("stock", 0, 100, 40),))
-            escrow.create(folder, schema, 0, programs.escrow_site())
+            escrow.create(folder, schema, 0, programs.escrow_site(), name="metrics")
             with escrow.Site(folder, programs.escrow_site(), metrics=numbers) as site:
                 for _ in range(3):
                     site.change("stock", -1)

@@ -3,6 +3,7 @@
 from __future__ import annotations
 
 import asyncio
+import os
 import threading
 import unittest
 
@@ -140,14 +141,22 @@ class CallTest(SiteTest):
         path, schema = f"{self.place}/new", f"{self.place}/world.json"
         with open(schema, "w", encoding="ascii") as file:
             file.write('{"sites":1,"fields":[{"name":"stock","floor":0,"ceiling":9,"value":4}]}\n')
-        escrow.create(path, schema, 0, program=escrow_site())
+        escrow.create(path, schema, 0, program=escrow_site(), name="new")
         self.assertEqual(self.served(path).read("stock"), Interval(4, 4))
         with self.assertRaises(escrow.ProgramError) as raised:
-            escrow.create(path, schema, 0, program=escrow_site())
+            escrow.create(path, schema, 0, program=escrow_site(), name="new")
         self.assertEqual(raised.exception.status, 3)
-        with self.assertRaises(escrow.ProgramError) as raised:
-            escrow.create(path + "1", schema, 1, program=escrow_site())
-        self.assertEqual(raised.exception.status, 2)
+        for number, name in ((1, "new"), (0, ""), (0, "new world")):
+            with self.assertRaises(escrow.ProgramError) as raised:
+                escrow.create(path + "1", schema, number, program=escrow_site(), name=name)
+            self.assertEqual(raised.exception.status, 2)
+
+    def test_create_wants_a_name(self) -> None:
+        path = os.path.join(self.place, "new")
+        with self.assertRaises(TypeError) as raised:
+            escrow.create(path, SHOP, 0, program=escrow_site())
+        self.assertIn("wants name=, the world's own", str(raised.exception))
+        self.assertFalse(os.path.exists(path))
 
 
 class AsyncCallTest(SiteTest):

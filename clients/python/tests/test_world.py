@@ -61,7 +61,7 @@ class ThreeShops:
         self.broker = Broker(os.path.join(folder, "broker"))
         self.relays = [Relay(self.broker.port) for _ in self.folders]
         for number, it in enumerate(self.folders):
-            create(it, SCHEMA, number, program=program)
+            create(it, SCHEMA, number, program=program, name="three-shops")
         self.shops = [Shop(it, program, Mqtt(port=relay.port, keepalive=3), POLICY, 2.0)
                       for it, relay in zip(self.folders, self.relays)]
         self.meddler = Meddler(self.broker.port, random.Random(dice.random()))
