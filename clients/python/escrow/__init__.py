@@ -13,6 +13,7 @@ from .errors import (
     Forged,
     Lost,
     NothingGiven,
+    OtherWorld,
     Over,
     ProgramError,
     Refusal,
@@ -30,6 +31,6 @@ from .values import Interval, Kind, Mark, Outcome, Share, Spared, Statement
 
 __all__ = [
     "AsyncSite", "AsyncTransaction", "Backoff", "Counts", "Down", "EscrowError", "Field", "Forged", "Interval", "Kind",
-    "Lost", "Mark", "NothingGiven", "Outcome", "Over", "ProgramError", "Refusal", "Refused", "Schema", "Share", "Short",
-    "Shown", "Site", "Spared", "Statement", "Transaction", "Unknown", "Watch", "create", "find_program", "show",
+    "Lost", "Mark", "NothingGiven", "OtherWorld", "Outcome", "Over", "ProgramError", "Refusal", "Refused", "Schema", "Share",
+    "Short", "Shown", "Site", "Spared", "Statement", "Transaction", "Unknown", "Watch", "create", "find_program", "show",
 ]  # fmt: skip

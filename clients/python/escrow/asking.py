@@ -27,7 +27,7 @@ def ask(pipeline: Pipeline, call: Call[T]) -> T:
 def is_kept(pipeline: Pipeline, id: str, seconds: float) -> bool:
     """Whether the log has the commit of this transaction: asked of a site that stands, before anybody else may ask it.
     Raises `Down` where it isn't answered in so many seconds."""
-    call, waiter = Kept(id), ThreadWaiter()
+    call, waiter = Kept(id, pipeline.line_id(id)), ThreadWaiter()
     call.waiter = waiter
     pipeline.submit((call,))
     pipeline.flush()
@@ -41,7 +41,7 @@ def is_kept(pipeline: Pipeline, id: str, seconds: float) -> bool:
 
 def kept(pipeline: Pipeline, id: str) -> Outcome:
     """What became of a transaction whose answer a stop left out. Raises `Unknown` where it can't be asked."""
-    return ask_behind_stop(pipeline, Kept(id), id)
+    return ask_behind_stop(pipeline, Kept(id, pipeline.line_id(id)), id)
 
 
 def ask_behind_stop(pipeline: Pipeline, call: Call[T], id: Optional[str] = None) -> T:
@@ -64,7 +64,7 @@ def unknown(pipeline: Pipeline, fault: Exception, id: Optional[str] = None) -> U
 
 async def async_kept(pipeline: Pipeline, ask_: Ask, id: str) -> Outcome:
     """As `kept`."""
-    return await async_ask_behind_stop(pipeline, ask_, Kept(id), id)
+    return await async_ask_behind_stop(pipeline, ask_, Kept(id, pipeline.line_id(id)), id)
 
 
 async def async_ask_behind_stop(pipeline: Pipeline, ask_: Ask, call: Call[T], id: Optional[str] = None) -> T:

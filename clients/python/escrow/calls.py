@@ -1,4 +1,5 @@
-"""What can be asked of a served site: the lines that go out, and what their answers mean."""
+"""What can be asked of a served site: the lines that go out, and what their answers mean. An id is here what lines name a
+transaction by, `EPOCH.NUMBER`."""
 
 from __future__ import annotations
 
@@ -22,7 +23,7 @@ class Run(Protocol):
     epoch: int
 
     def new_id(self) -> str:
-        """The id that the next begin is answered with, where its line goes out next. Raises `EpochFull`."""
+        """What the next begin is answered with, where its line goes out next. Raises `EpochFull`."""
 
     def standing(self, id: str) -> Standing:
         """Where a transaction stands in this process, by the lines that went out."""
@@ -232,7 +233,7 @@ def _begun(reply: Reply, own: str) -> None:
 class Account(Protocol):
     """A transaction, as its calls see it: where it stands. Asked under the pipeline's lock."""
 
-    id: str
+    line_id: str
 
     def begins(self, run: Run) -> str:
         """It begins now: its id. Raises `Over` where it has ended meanwhile."""
@@ -265,7 +266,7 @@ class First(Call[None]):
         self.expected = f"{n} begin -> begun {own}\n{n} escrow {own} {self._what} -> granted\n"
 
     def told(self, replies: Sequence[Reply]) -> None:
-        _begun(replies[0], self._account.id)
+        _begun(replies[0], self._account.line_id)
         replies[1].words("granted")
 
 
@@ -351,22 +352,22 @@ class GiveBack(Call[None]):
 
 
 class Kept(Call[Outcome]):
-    """What became of a transaction."""
+    """What became of a transaction: by its id as callers have it, and as lines do."""
 
-    __slots__ = ("_id", "_is_open")
+    __slots__ = ("_asked", "_id", "_is_open")
     command = Command.KEPT
     again = True
 
-    def __init__(self, id: str) -> None:
-        self._id, self._is_open = id, False
+    def __init__(self, asked: str, id: str) -> None:
+        self._asked, self._id, self._is_open = asked, id, False
         self.text, self.expected = f"kept {id}\n", ""
 
     def plan(self, run: Run) -> None:
         standing = run.standing(self._id)
         if standing is Standing.LATER:
-            raise Unknown("its epoch is later than any of the log: an older log was put back", self._id)
+            raise Unknown("its epoch is later than any of the log: an older log was put back", self._asked)
         if standing is Standing.UNBEGUN:
-            raise ValueError(f"{self._id}: no such transaction was begun yet")
+            raise ValueError(f"{self._asked}: no such transaction was begun yet")
         self._is_open = standing is Standing.OPEN
 
     def told(self, replies: Sequence[Reply]) -> Outcome:

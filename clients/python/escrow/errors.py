@@ -144,6 +144,21 @@ class Down(EscrowError):
         super().__init__(why)
 
 
+class OtherWorld(EscrowError, ValueError):
+    """The id is of another world than the site, as one that was settled: nothing was asked, since this site would tell of
+    a transaction of its own.
+
+    `id` is the one that was asked about, `world` the first digits of its world's name, and `own` those of the site's.
+    """
+
+    def __init__(self, id: str, world: str, own: str, epoch: int, number: int) -> None:
+        self.id, self.world, self.own = id, world, own
+        super().__init__(
+            f"{id}: this id is of another world ({world}), and this site of {own}: where that world was settled, look in "
+            f"its site's old folder: grep '^C {epoch} {number} ' FOLDER/log finds what was committed, and nothing else"
+        )
+
+
 class ProgramError(EscrowError):
     """A run of the program, as `create` or `show`, ended with this status and told why."""
 

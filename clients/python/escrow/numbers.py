@@ -1,8 +1,12 @@
-"""The whole numbers that a line has room for."""
+"""The whole numbers that a line has room for, and the ids of transactions."""
 
 from __future__ import annotations
 
 import operator
+import re
+from typing import NamedTuple
+
+from .errors import OtherWorld
 
 U64 = 2**64 - 1
 I64 = 2**63 - 1
@@ -34,15 +38,37 @@ def site_of(number: int) -> int:
     return whole
 
 
-def read_id(id: str) -> tuple[int, int]:
-    """The epoch and the number of a transaction. Raises `ValueError` where this is no id."""
-    epoch, dot, number = id.partition(".")
-    if not (dot and _is_plain(epoch) and _is_plain(number)):
+SHORT = 8
+"""So many digits of the name of its world stand in front of an id."""
+_ID = re.compile(r"(?:([0-9a-f]{8})-)?((?:0|[1-9][0-9]{0,9})\.(?:0|[1-9][0-9]{0,9}))")
+
+
+class Id(NamedTuple):
+    """What the id of a transaction tells, as `9c1f0a2b-1.17`: the first digits of the name of its world, and how its
+    site's lines name it. Clients of earlier days told no world: there `world` is empty."""
+
+    world: str
+    line: str
+
+    def numbers(self) -> tuple[int, int]:
+        """The epoch, and the number in it."""
+        epoch, _, number = self.line.partition(".")
+        return int(epoch), int(number)
+
+
+def read_id(id: str) -> Id:
+    """Reads an id. Raises `ValueError` where this is none."""
+    found = _ID.fullmatch(id)
+    told = None if found is None else Id(found[1] or "", found[2])
+    if told is None or max(told.numbers()) >= 2**32:
         raise ValueError(f"{id!r}: isn't the id of a transaction")
-    return int(epoch), int(number)
+    return told
 
 
-def _is_plain(digits: str) -> bool:
-    if not (digits.isascii() and digits.isdecimal() and len(digits) <= 10):
-        return False
-    return str(int(digits)) == digits and int(digits) < 2**32
+def line_id(world: str, id: str) -> str:
+    """How the lines of a site of this world name a transaction; `world` is the first digits of the world's name. Raises
+    `OtherWorld` where the id is of another, and `ValueError` where it is none."""
+    told = read_id(id)
+    if told.world and told.world != world:
+        raise OtherWorld(id, told.world, world, *told.numbers())
+    return told.line

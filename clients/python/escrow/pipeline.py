@@ -16,7 +16,7 @@ from typing import Any, NamedTuple, Optional, Protocol, cast
 from .calls import Call, Change, Changes, Shape, Standing
 from .desk import Desk
 from .errors import Down, EpochFull, EscrowError, Faulty, Interrupted, Lost, Over, Refusal, Refused, Short, Unknown, gone
-from .numbers import change_of, read_id
+from .numbers import SHORT, change_of, line_id, read_id
 from .reading import Reading
 from .values import Command, Kind, Share, Spared, Statement
 from .waiters import settle
@@ -93,9 +93,17 @@ class Pipeline:
     """The order of the lines of one site, over one process after another."""
 
     def __init__(
-        self, number: int, fields: frozenset[str], issued: Callable[[Statement], None], watch: Optional[Watch]
+        self,
+        number: int,
+        world: str,
+        fields: frozenset[str],
+        issued: Callable[[Statement], None],
+        watch: Optional[Watch],
     ) -> None:
         self.number = number
+        self.world = world[:SHORT]
+        """The first digits of the world's name, which stand in front of each id."""
+        self.front = f"{self.world}-"
         self.counts = Counts()
         self.lock = threading.Lock()
         self._fields, self._issued, self._watch = fields, issued, watch
@@ -110,6 +118,7 @@ class Pipeline:
         """How often somebody else may have served the site between two processes of this client."""
         self.open = 0
         self.open_ids: set[str] = set()
+        """As lines name them."""
         self.numbers = NUMBERS
         self._numbers, self._prefix = 0, ""
         self._ending = False  # its input is to end, once all that was asked is written
@@ -257,16 +266,19 @@ class Pipeline:
             self._watch.missed(_MISSED[type(fault)])
 
     def new_id(self) -> str:
-        """The id that the next begin is answered with, where its line goes out next. Raises `EpochFull`."""
+        """What the next begin is answered with, where its line goes out next. Raises `EpochFull`."""
         if self._numbers >= self.numbers:
             raise EpochFull()
         self._numbers += 1
         return f"{self._prefix}{self._numbers}"
 
+    def line_id(self, id: str) -> str:
+        """How lines name the transaction of this id. Raises `OtherWorld`, and `ValueError` where it is none."""
+        return line_id(self.world, id)
+
     def standing(self, id: str) -> Standing:
-        """Where a transaction stands in this process, by the lines that went out. Raises `ValueError` where this is no
-        id."""
-        epoch, number = read_id(id)
+        """Where a transaction stands in this process, by the lines that went out."""
+        epoch, number = read_id(id).numbers()
         if epoch > self.epoch:
             return Standing.LATER
         if epoch == self.epoch and number > self._numbers:

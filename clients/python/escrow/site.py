@@ -17,7 +17,7 @@ from .desk import Desks
 from .errands import Errands
 from .errors import Down, Interrupted
 from .gauges import Gauges
-from .numbers import amount_of, read_id, site_of
+from .numbers import amount_of, site_of
 from .pipeline import Counts, Pipeline, Watch
 from .program import Path, find_program
 from .schema import identity
@@ -73,13 +73,15 @@ class Site:
         Raises `Down` where it doesn't stand in time, at once where the folder or the log is refused (`status` 3), the
         command line is (2), the disk has a fault (5), or another `Site` of this machine has the folder (6); a disk that
         is full is waited for. `FileNotFoundError` where no program is named and none is found, `ValueError` where
-        `last_id` is no id.
+        `last_id` is no id, and `OtherWorld` where it is one of another world.
         """
-        if last_id is not None:
-            read_id(last_id)
         self.folder = os.path.abspath(os.fspath(folder))
         whose = identity(self.folder)
         self.number, self.world, self.schema = whose
+        names = frozenset(field.name for field in self.schema.fields)
+        self.pipeline = Pipeline(self.number, self.world, names, self._issued, metrics)
+        if last_id is not None:
+            self.pipeline.line_id(last_id)
         self.metrics = metrics
         self.on_statement: list[Callable[[Statement], object]] = []
         """Called with each statement that is issued, in a thread of its own, in order: it has to reach its receiver."""
@@ -89,8 +91,6 @@ class Site:
         self._hooks, self._clock = Errands(f"escrow hooks {self.number}"), Errands(f"escrow time limits {self.number}")
         self._is_fork = False
         self._folder_lock = _lock(os.path.join(self.folder, "site"))
-        names = frozenset(field.name for field in self.schema.fields)
-        self.pipeline = Pipeline(self.number, names, self._issued, metrics)
         self._steps = Steps(self.pipeline, self.folder, self._program)
         options = (*(("--trace",) if trace else ()), *(() if sync else ("--no-sync",)))
         orders = Orders(self.folder, whose, (self._program, "serve", self.folder, *options), backoff, patience)
@@ -217,10 +217,11 @@ class Site:
             call.shape = shape
             try:
                 ask(self.pipeline, call)
-                return call.id
+                return self.pipeline.front + call.id
             except Interrupted:
-                if kept(self.pipeline, call.id) is Outcome.COMMITTED:
-                    return call.id
+                id = self.pipeline.front + call.id
+                if kept(self.pipeline, id) is Outcome.COMMITTED:
+                    return id
 
     def _change_behind(self, before: Before, field: str, change: int) -> str:
         while True:
@@ -295,11 +296,14 @@ class Site:
     def outcome(self, id: str) -> Outcome:
         """What became of a transaction, by the log: also of one of a client that died.
 
-        Raises `Unknown` where its id is of a later start than any that this log has: then an older log was put back;
-        `ValueError` where it is no id, or none of this epoch yet; `Down`.
+        Raises `OtherWorld` where its id tells another world than this site's; `Unknown` where it is of a later start than
+        any that this log has: then an older log was put back; `ValueError` where it is no id, or none of this epoch yet;
+        `Down`. An id that tells no world, as clients of earlier days gave them, is taken for one of this world.
         """
-        read_id(id)
-        return ask(self.pipeline, Kept(id))
+        return ask(self.pipeline, self._kept(id))
+
+    def _kept(self, id: str) -> Kept:
+        return Kept(id, self.pipeline.line_id(id))
 
     # The end.
 
@@ -345,7 +349,7 @@ class AsyncSite:
     def __init__(self, site: Site) -> None:
         self.site = site
         self._pipeline = site.pipeline
-        self._shapes = site.pipeline.shapes
+        self._shapes, self._front = site.pipeline.shapes, site.pipeline.front
         self._desks = Desks(site.pipeline)
         self._ask = self._desks.ask
 
@@ -367,7 +371,7 @@ class AsyncSite:
             call.shape, call.answer, call.waiter = shape, None, desk
             await call
             if call.answer is None or await self._was_made(call):
-                return call.id
+                return self._front + call.id
 
     async def _change_behind(self, before: Before, field: str, change: int) -> str:
         while True:
@@ -381,7 +385,7 @@ class AsyncSite:
             result_of(change)
         except Interrupted:
             pass
-        return await async_kept(self._pipeline, self._ask, change.id) is Outcome.COMMITTED
+        return await async_kept(self._pipeline, self._ask, self._front + change.id) is Outcome.COMMITTED
 
     async def give(self, to: int, field: str, kind: Kind, amount: int) -> Statement:
         """As `Site.give`, in a thread."""
@@ -421,8 +425,7 @@ class AsyncSite:
 
     async def outcome(self, id: str) -> Outcome:
         """As `Site.outcome`."""
-        read_id(id)
-        return await self._ask(Kept(id))
+        return await self._ask(self.site._kept(id))
 
 
 def _size_of_records(path: str) -> int:

@@ -37,7 +37,8 @@ _WHY = {
 
 
 class BaseTransaction:
-    """What both kinds of transaction are: an id, where it stands, and the calls that it makes.
+    """What both kinds of transaction are: an id, where it stands, and the calls that it makes. `line_id` is what the site's
+    lines name it by.
 
     Where it stands changes under the pipeline's lock alone, together with the lines that go out: so a time limit that
     is up before the `begin` went out keeps it from going out, and one that is up later gives back what was set aside.
@@ -50,7 +51,7 @@ class BaseTransaction:
         self._first: Optional[First] = None
         self._limit: Optional[Entry] = None
         self._granted = 0
-        self.id = ""
+        self.line_id = self.id = ""
 
     @property
     def state(self) -> State:
@@ -62,16 +63,17 @@ class BaseTransaction:
     def begins(self, run: Run) -> str:
         """It begins now: its id. Raises `Over` where it has ended meanwhile."""
         self._check()
-        self.id, self._epoch = run.new_id(), run.epoch
-        self._pipeline.open_ids.add(self.id)
-        return self.id
+        self.line_id, self._epoch = run.new_id(), run.epoch
+        self.id = self._pipeline.front + self.line_id
+        self._pipeline.open_ids.add(self.line_id)
+        return self.line_id
 
     def goes_on(self, run: Run) -> str:
         """Its id, where it is still open. Raises `Over` where it isn't."""
         self._check()
         if self._epoch != run.epoch:
             raise gone()
-        return self.id
+        return self.line_id
 
     def ends(self, run: Run) -> str:
         """It ends now: its id. Raises `Over` where it has ended."""
@@ -79,8 +81,8 @@ class BaseTransaction:
         self._end()
         if self._epoch != run.epoch:
             raise gone()
-        self._pipeline.open_ids.discard(self.id)
-        return self.id
+        self._pipeline.open_ids.discard(self.line_id)
+        return self.line_id
 
     def stopped(self) -> None:
         """It was to end, and the process stopped before: it has ended, and what waits of it doesn't go out."""
@@ -131,8 +133,8 @@ class BaseTransaction:
                 return
             self._state = State.EXPIRED
             if self._pipeline.up and self._epoch == self._pipeline.epoch:
-                self._pipeline.open_ids.discard(self.id)
-                self._pipeline.queue(GiveBack(self.id))
+                self._pipeline.open_ids.discard(self.line_id)
+                self._pipeline.queue(GiveBack(self.line_id))
             elif self._first is not None:  # it may wait still: for a place, or for a site that stands
                 self._pipeline.fail(self._first, Over(_WHY[State.EXPIRED]))
         self._pipeline.flush()

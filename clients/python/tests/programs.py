@@ -3,6 +3,7 @@
 from __future__ import annotations
 
 import functools
+import hashlib
 import os
 import random
 import signal
@@ -35,6 +36,23 @@ LARGE = escrow.Schema(2, (escrow.Field("stock", 0, 2_000_000, 1_000_000), escrow
 
 
 @functools.cache
+def short_name(schema: escrow.Schema, name: str = WORLD) -> str:
+    """What stands in front of the ids of a world, by docs/FORMATS.md: of the SHA-256 of its own name, a line feed and its
+    header."""
+    return hashlib.sha256(f"{name}\n{schema.line()}".encode("ascii")).hexdigest()[:8]
+
+
+def of_shop(id: str) -> str:
+    """The id of a transaction that lines name so, in a test's world of the schema `SHOP`."""
+    return f"{short_name(SHOP)}-{id}"
+
+
+def of_large(id: str) -> str:
+    """The same, of the schema `LARGE`."""
+    return f"{short_name(LARGE)}-{id}"
+
+
+@functools.cache
 def escrow_site() -> str:
     """The path of the program: `$ESCROW_SITE`, or that which the script at the top of the repository would run."""
     named = os.environ.get("ESCROW_SITE")
@@ -53,10 +71,10 @@ class SiteTest(unittest.TestCase):
         self.addCleanup(held.cleanup)
         self.place = held.name
 
-    def folder(self, schema: escrow.Schema = SHOP, number: int = 0, name: str = "shop") -> str:
+    def folder(self, schema: escrow.Schema = SHOP, number: int = 0, name: str = "shop", world: str = WORLD) -> str:
         """A new folder of this site."""
         path = os.path.join(self.place, name)
-        escrow.create(path, schema, number, program=escrow_site(), name=WORLD)
+        escrow.create(path, schema, number, program=escrow_site(), name=world)
         return path
 
     def served(self, folder: str, **options: object) -> escrow.Site:
@@ -124,19 +142,30 @@ class Gate:
 
 
 def records(folder: str) -> list[list[str]]:
-    """The words of the records of a log, by "Kept records" of docs/FORMATS.md, behind its name of three lines."""
+    """The words of the records of a log, by "Kept records" of docs/FORMATS.md."""
+    return log_of(folder)[1]
+
+
+def log_of(folder: str) -> tuple[str, list[list[str]]]:
+    """The name of a log's world, and the words of its records: in version 2 of those that a sum closes."""
     with open(os.path.join(folder, "log"), encoding="ascii") as file:
-        whole = file.read().split("\n")[:-1]
-    return [line.split(" ") for line in whole[3:]]
+        version, number, world, *lines = file.read().split("\n")[:-1]
+    assert version in ("escrow log 1", "escrow log 2") and number.startswith("number "), version
+    if version == "escrow log 2":
+        assert [line.split(" ")[0] for line in lines[:2]] == ["head", "sum"], lines[:2]
+        last = max(at for at, line in enumerate(lines) if line.startswith("sum "))
+        lines = [line for line in lines[2 : last + 1] if not line.startswith("sum ")]
+    return world.removeprefix("world "), [line.split(" ") for line in lines]
 
 
 def commits(folder: str, schema: escrow.Schema) -> dict[str, Changes]:
-    """The changes of each commit of a log. Fails where an id stands twice."""
+    """The changes of each commit of a log, by id. Fails where one stands twice."""
     found: dict[str, Changes] = {}
-    for words in records(folder):
+    world, kept = log_of(folder)
+    for words in kept:
         if words[0] != "C":
             continue
-        id = f"{words[1]}.{words[2]}"
+        id = f"{world[:8]}-{words[1]}.{words[2]}"
         assert id not in found, f"{id} is committed twice"
         pairs = zip(words[3::2], words[4::2])
         found[id] = tuple((schema.fields[int(field)].name, int(change)) for field, change in pairs)

@@ -2,7 +2,6 @@
 has to come to in the end, by the sellers' notes and by docs/FORMATS.md alone."""
 from __future__ import annotations
 
-import os
 import random
 import threading
 import time
@@ -10,6 +9,7 @@ from collections.abc import Iterable
 from enum import Enum
 from typing import NamedTuple, Optional
 
+import programs
 from escrow import Down, Lost, Over, Short, Site, Unknown
 from escrow_carrier import Carrier, Medium, Policy
 
@@ -156,12 +156,11 @@ class Log(NamedTuple):
 
 def log_of(folder: str, fields: list[str]) -> Log:
     """Reads the commits of a log, by docs/FORMATS.md. Raises ValueError where one id stands there twice."""
-    with open(os.path.join(folder, "log"), encoding="ascii") as file:
-        records = [line.split(" ") for line in file.read().split("\n")[3:-1]]
+    world, records = programs.log_of(folder)
     commits: dict[str, Changes] = {}
     for words in records:
         if words[0] == "C":
-            name = f"{words[1]}.{words[2]}"
+            name = f"{world[:8]}-{words[1]}.{words[2]}"
             if name in commits:
                 raise ValueError(f"{folder}: {name} is committed twice")
             commits[name] = tuple((fields[int(words[at])], int(words[at + 1])) for at in range(3, len(words), 2))

@@ -12,7 +12,7 @@ import threading
 import time
 import unittest
 
-from programs import LARGE, SHOP, Killer, SiteTest, commits, escrow_site, is_ended, kill, pid_of, records, wait_until
+from programs import LARGE, SHOP, Killer, SiteTest, commits, escrow_site, is_ended, kill, of_shop, pid_of, records, wait_until
 from test_site_stops import CUT
 import escrow
 from escrow import Outcome, Share
@@ -53,12 +53,12 @@ class BeforeTest(SiteTest):
         def before(id: str) -> None:
             told.extend((id, site.outcome(id), site.share("stock"), len(records(site.folder))))
 
-        self.assertEqual(site.change("stock", -3, before=before), "1.1")
-        self.assertEqual(told, ["1.1", Outcome.OPEN, Share(17, 30), 1])  # of the log the start alone
-        self.assertEqual(site.outcome("1.1"), Outcome.COMMITTED)
+        self.assertEqual(site.change("stock", -3, before=before), of_shop("1.1"))
+        self.assertEqual(told, [of_shop("1.1"), Outcome.OPEN, Share(17, 30), 1])  # of the log the start alone
+        self.assertEqual(site.outcome(of_shop("1.1")), Outcome.COMMITTED)
         self.assertEqual((site.share("stock"), site.open), (Share(17, 33), 0))
         site.close()
-        self.assertEqual(commits(site.folder, SHOP), {"1.1": (("stock", -3),)})
+        self.assertEqual(commits(site.folder, SHOP), {of_shop("1.1"): (("stock", -3),)})
 
     def test_others_that_begin_in_between_have_ids_of_their_own(self) -> None:
         site, told = self.site(), []  # type: escrow.Site, list[str]
@@ -67,22 +67,22 @@ class BeforeTest(SiteTest):
             told.append(id)
             told.append(site.change("stock", -2))
 
-        self.assertEqual(site.change("stock", -3, before=before), "1.1")
-        self.assertEqual(told, ["1.1", "1.2"])
+        self.assertEqual(site.change("stock", -3, before=before), of_shop("1.1"))
+        self.assertEqual(told, [of_shop("1.1"), of_shop("1.2")])
         site.close()
-        self.assertEqual(commits(site.folder, SHOP), {"1.1": (("stock", -3),), "1.2": (("stock", -2),)})
+        self.assertEqual(commits(site.folder, SHOP), {of_shop("1.1"): (("stock", -3),), of_shop("1.2"): (("stock", -2),)})
 
     def test_what_it_raises_comes_through_and_nothing_stays(self) -> None:
         site = self.site()
         with self.assertRaises(Slip) as raised:
             site.change("stock", -3, before=slips)
-        self.assertEqual(str(raised.exception), "1.1")
-        self.assertEqual((site.open, site.outcome("1.1")), (0, Outcome.NOT_COMMITTED))
+        self.assertEqual(str(raised.exception), of_shop("1.1"))
+        self.assertEqual((site.open, site.outcome(of_shop("1.1"))), (0, Outcome.NOT_COMMITTED))
         self.assertEqual((site.share("stock"), records(site.folder)), (Share(20, 30), [["R", "1"]]))
 
     def test_faults_of_the_client_that_it_raises_come_through_too(self) -> None:
         """As of a transaction that it ends: they aren't taken for those of this one, which would be begun anew."""
-        site, faults = self.site(), (escrow.Over("its own"), escrow.Lost("its own"), escrow.Unknown("its own", "7.1"))
+        site, faults = self.site(), (escrow.Over("its own"), escrow.Lost("its own"), escrow.Unknown("its own", of_shop("7.1")))
         for fault in faults:
 
             def before(_: str, fault: Exception = fault) -> None:
@@ -138,11 +138,11 @@ class StoppedTest(SiteTest):
                 if len(told) == 1:  # the first commit finds no process, the second the next one
                     wait_until(lambda: site.up and site.epoch == 2)
 
-        self.assertEqual(site.change("stock", -3, before=before), "3.1")
-        self.assertEqual(told, ["1.1", "2.1", "3.1"])
+        self.assertEqual(site.change("stock", -3, before=before), of_shop("3.1"))
+        self.assertEqual(told, [of_shop("1.1"), of_shop("2.1"), of_shop("3.1")])
         self.assertEqual([site.outcome(id) for id in told], [Outcome.NOT_COMMITTED] * 2 + [Outcome.COMMITTED])
         site.close()
-        self.assertEqual(commits(site.folder, SHOP), {"3.1": (("stock", -3),)})
+        self.assertEqual(commits(site.folder, SHOP), {of_shop("3.1"): (("stock", -3),)})
 
     def cut(self) -> escrow.Site:
         """A site whose first process is heard for begin and escrow, and not for the commit, which is in its log."""
@@ -158,10 +158,10 @@ class StoppedTest(SiteTest):
 
     def test_a_stop_behind_the_commit_is_not_seen(self) -> None:
         site, told = self.cut(), []  # type: escrow.Site, list[str]
-        self.assertEqual(site.change("stock", -3, before=told.append), "1.1")
-        self.assertEqual((told, site.epoch), (["1.1"], 2))
+        self.assertEqual(site.change("stock", -3, before=told.append), of_shop("1.1"))
+        self.assertEqual((told, site.epoch), ([of_shop("1.1")], 2))
         site.close()
-        self.assertEqual(commits(site.folder, SHOP), {"1.1": (("stock", -3),)})
+        self.assertEqual(commits(site.folder, SHOP), {of_shop("1.1"): (("stock", -3),)})
 
     def test_a_task_does_not_see_it_either(self) -> None:
         site, told = self.cut(), []  # type: escrow.Site, list[str]
@@ -169,10 +169,10 @@ class StoppedTest(SiteTest):
         async def sells() -> str:
             return await escrow.AsyncSite(site).change("stock", -3, before=told.append)
 
-        self.assertEqual(asyncio.run(sells()), "1.1")
-        self.assertEqual((told, site.epoch), (["1.1"], 2))
+        self.assertEqual(asyncio.run(sells()), of_shop("1.1"))
+        self.assertEqual((told, site.epoch), ([of_shop("1.1")], 2))
         site.close()
-        self.assertEqual(commits(site.folder, SHOP), {"1.1": (("stock", -3),)})
+        self.assertEqual(commits(site.folder, SHOP), {of_shop("1.1"): (("stock", -3),)})
 
     def test_kills_under_threads_and_tasks(self) -> None:
         """Of the ids that a call told, the last one is committed, and no other: each change once."""
@@ -263,10 +263,10 @@ class TaskTest(SiteTest):
             first = await shop.change("stock", -3, before=before)
             return [first, await shop.change("stock", -2, before=told.append)]
 
-        self.assertEqual(asyncio.run(sells()), ["1.1", "1.2"])
-        self.assertEqual(told, ["1.1", Outcome.OPEN, "1.2"])
+        self.assertEqual(asyncio.run(sells()), [of_shop("1.1"), of_shop("1.2")])
+        self.assertEqual(told, [of_shop("1.1"), Outcome.OPEN, of_shop("1.2")])
         site.close()
-        self.assertEqual(commits(site.folder, SHOP), {"1.1": (("stock", -3),), "1.2": (("stock", -2),)})
+        self.assertEqual(commits(site.folder, SHOP), {of_shop("1.1"): (("stock", -3),), of_shop("1.2"): (("stock", -2),)})
 
     def test_what_it_raises_and_a_cancelled_task_leave_nothing(self) -> None:
         site, told = self.site(), []  # type: escrow.Site, list[str]
@@ -285,7 +285,7 @@ class TaskTest(SiteTest):
                 await shop.change("stock", -21, before=before)
 
         asyncio.run(calls())
-        self.assertEqual(told, ["1.2"])
+        self.assertEqual(told, [of_shop("1.2")])
         self.assertEqual((site.open, site.share("stock"), records(site.folder)), (0, Share(20, 30), [["R", "1"]]))
 
 

@@ -7,7 +7,7 @@ import shutil
 import time
 import unittest
 
-from programs import SiteTest, escrow_site, is_ended, records
+from programs import SiteTest, escrow_site, is_ended, of_shop, records
 from test_site_stops import CUT
 import escrow
 
@@ -27,7 +27,7 @@ class LastIdTest(SiteTest):
         """A folder in which so many were sold one by one, in the first epoch, and then its copy after one of them."""
         site = self.site()
         for number in range(1, many + 1):
-            self.assertEqual(site.change("stock", -1), f"1.{number}")
+            self.assertEqual(site.change("stock", -1), of_shop(f"1.{number}"))
             if number == 1:
                 shutil.copytree(site.folder, self.copy)
         site.close()
@@ -48,24 +48,24 @@ class LastIdTest(SiteTest):
 
     def test_a_log_that_has_it_is_served(self) -> None:
         folder = self.sold(3)
-        site = self.served(folder, last_id="1.3")
+        site = self.served(folder, last_id=of_shop("1.3"))
         self.assertEqual((site.epoch, site.share("stock")), (2, escrow.Share(17, 33)))
-        self.assertEqual(site.change("stock", -1), "2.1")
+        self.assertEqual(site.change("stock", -1), of_shop("2.1"))
 
     def test_an_older_log_is_refused(self) -> None:
         folder = self.sold(3)
-        told = self.refused(self.copy, "1.3")
-        self.assertTrue(told.startswith(f"{self.copy}/log: transaction 1.3 isn't in it: "), told)
+        told = self.refused(self.copy, of_shop("1.3"))
+        self.assertTrue(told.startswith(f"{self.copy}/log: transaction {of_shop('1.3')} isn't in it: "), told)
         self.assertIn("an older log: put the newest log back; where there is none", told)
         # Nothing was asked of it but that: its start alone is in it. The folder is free, and the newest log is served.
         self.assertEqual(records(self.copy), [["R", "1"], ["C", "1", "1", "0", "-1"], ["R", "2"]])
-        self.served(self.copy, last_id="1.1").close()
-        self.assertEqual(self.served(folder, last_id="1.3").epoch, 2)
+        self.served(self.copy, last_id=of_shop("1.1")).close()
+        self.assertEqual(self.served(folder, last_id=of_shop("1.3")).epoch, 2)
 
     def test_an_id_of_a_later_start_is_refused_again_and_again(self) -> None:
         """Of the epoch that the refused start itself begins, of the one before at the next try, and of a later one."""
         self.sold(1)
-        for last_id in ("2.1", "2.1", "9.1"):
+        for last_id in (of_shop("2.1"), of_shop("2.1"), of_shop("9.1")):
             self.assertIn(f"transaction {last_id} isn't in it", self.refused(self.copy, last_id))
 
     def test_a_transaction_that_was_aborted_is_refused(self) -> None:
@@ -74,7 +74,7 @@ class LastIdTest(SiteTest):
         t.lower("stock", 1)
         t.abort()
         site.close()
-        self.assertIn("transaction 1.1 isn't in it", self.refused(site.folder, "1.1"))
+        self.assertIn(f"transaction {t.id} isn't in it", self.refused(site.folder, of_shop("1.1")))
 
     def test_what_is_no_id_starts_nothing(self) -> None:
         folder = self.folder()
@@ -90,7 +90,7 @@ class LastIdTest(SiteTest):
         with open(program, "w", encoding="ascii") as file:
             file.write(CUT.format(real=escrow_site(), first=first, lines=2))
         os.chmod(program, 0o755)
-        for place, last_id, epoch in ((folder, "1.2", 3), (self.copy, "1.2", 0)):
+        for place, last_id, epoch in ((folder, of_shop("1.2"), 3), (self.copy, of_shop("1.2"), 0)):
             with open(first, "w", encoding="ascii"):
                 pass
             try:
@@ -108,7 +108,7 @@ class LastIdTest(SiteTest):
         os.chmod(program, 0o755)
         folder, began = self.folder(), time.monotonic()
         with self.assertRaises(escrow.Down) as raised:
-            escrow.Site(folder, program=program, last_id="1.1", wait=0.5)
+            escrow.Site(folder, program=program, last_id=of_shop("1.1"), wait=0.5)
         self.assertLess(time.monotonic() - began, 5.0)
         self.assertIn("wasn't answered in time", str(raised.exception))
         with open(pid, encoding="ascii") as file:

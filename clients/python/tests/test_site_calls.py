@@ -7,7 +7,7 @@ import os
 import threading
 import unittest
 
-from programs import LARGE, SHOP, Act, SiteTest, commits, escrow_site, records, totals, wait_until
+from programs import LARGE, SHOP, Act, SiteTest, commits, escrow_site, of_large, of_shop, records, totals, wait_until
 import escrow
 from escrow import Interval, Kind, Outcome, Refusal, Share, Spared, Statement
 
@@ -21,10 +21,10 @@ class CallTest(SiteTest):
             t.lower("stock", 3)
             t.lower("seats", 2)
             t.change("stock", 1)
-        self.assertEqual(t.id, "1.1")
+        self.assertEqual(t.id, of_shop("1.1"))
         self.assertEqual(site.outcome(t.id), Outcome.COMMITTED)
         site.close()
-        self.assertEqual(commits(site.folder, SHOP), {"1.1": (("stock", -3), ("seats", -2), ("stock", 1))})
+        self.assertEqual(commits(site.folder, SHOP), {of_shop("1.1"): (("stock", -3), ("seats", -2), ("stock", 1))})
 
     def test_a_transaction_aborts_on_an_exception(self) -> None:
         site = self.site()
@@ -60,11 +60,11 @@ class CallTest(SiteTest):
 
     def test_a_change_is_one_trip(self) -> None:
         site = self.site()
-        self.assertEqual(site.change("stock", -3), "1.1")
-        self.assertEqual(site.change("stock", 5), "1.2")
+        self.assertEqual(site.change("stock", -3), of_shop("1.1"))
+        self.assertEqual(site.change("stock", 5), of_shop("1.2"))
         self.assertEqual(site.counts.answers, 2)
         site.close()
-        self.assertEqual(commits(site.folder, SHOP), {"1.1": (("stock", -3),), "1.2": (("stock", 5),)})
+        self.assertEqual(commits(site.folder, SHOP), {of_shop("1.1"): (("stock", -3),), of_shop("1.2"): (("stock", 5),)})
 
     def test_reads_and_shares(self) -> None:
         site = self.site()
@@ -172,7 +172,7 @@ class AsyncCallTest(SiteTest):
                 await t.raise_("stock", 1)
                 await t.change("seats", -1)
             self.assertEqual(await shop.outcome(t.id), Outcome.COMMITTED)
-            self.assertEqual(await shop.change("stock", -1), "1.2")
+            self.assertEqual(await shop.change("stock", -1), of_shop("1.2"))
             self.assertEqual(await shop.read("stock"), Interval(17, 67))
             self.assertEqual(await shop.share("stock"), Share(17, 33))
             self.assertEqual((await shop.give(1, "stock", Kind.LOWER, 2)).total, 2)
@@ -184,7 +184,7 @@ class AsyncCallTest(SiteTest):
 
         asyncio.run(calls())
         site.close()
-        self.assertEqual(commits(site.folder, SHOP), {"1.1": (("stock", -3), ("stock", 1), ("seats", -1)), "1.2": (("stock", -1),)})
+        self.assertEqual(commits(site.folder, SHOP), {of_shop("1.1"): (("stock", -3), ("stock", 1), ("seats", -1)), of_shop("1.2"): (("stock", -1),)})
 
     def test_an_exception_or_a_cancellation_aborts(self) -> None:
         site = self.site()
@@ -372,11 +372,11 @@ class RefusalTest(SiteTest):
         site = self.site(LARGE)
         site.pipeline.numbers = 40  # of 10^9
         ids = [site.change("stock", -1) for _ in range(100)]
-        expected = [f"{epoch}.{number}" for epoch in (1, 2, 3) for number in range(1, 41)][:100]
+        expected = [of_large(f"{epoch}.{number}") for epoch in (1, 2, 3) for number in range(1, 41)][:100]
         self.assertEqual(ids, expected)
         with site.transaction() as t:
             t.lower("stock", 5)
-        self.assertEqual(t.id, "3.21")
+        self.assertEqual(t.id, of_large("3.21"))
 
     def test_15_nothing_given(self) -> None:
         nothing = self.refused(Refusal.NOTHING_GIVEN, self.site().restate, 1, "stock", Kind.LOWER)
@@ -406,7 +406,7 @@ class RefusalTest(SiteTest):
             (lambda: site.outcome("1.01"), ValueError),
             (lambda: site.outcome("1.2\n0 begin"), ValueError),
             (lambda: site.outcome("1.77"), ValueError),  # not begun yet
-            (lambda: site.outcome("2.1"), escrow.Unknown),  # later than the log
+            (lambda: site.outcome(of_shop("2.1")), escrow.Unknown),  # later than the log
         ]
         for act, fault in cases:
             with self.assertRaises(fault):

@@ -11,7 +11,7 @@ import time
 import unittest
 import unittest.mock
 
-from programs import LARGE, SiteTest, commits, escrow_site, wait_until
+from programs import LARGE, SiteTest, commits, escrow_site, of_large, wait_until
 import escrow
 from escrow import Outcome, Share
 from escrow.metrics import Metrics, text_of
@@ -91,7 +91,7 @@ class FullTest(DiskTest):
         kept = site.outcome(fault.id) is Outcome.COMMITTED
         sold += [fault.id] * kept
         sold.append(site.change("stock", -1))
-        self.assertEqual((sold[-1], site.counts.starts), ("2.1", 2))
+        self.assertEqual((sold[-1], site.counts.starts), (of_large("2.1"), 2))
         self.assertEqual(site.share("stock"), Share(500_000 - len(sold), 500_000 + len(sold)))
         site.close()
         # `commits` fails where one is there twice.

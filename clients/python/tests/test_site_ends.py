@@ -12,7 +12,7 @@ import time
 import unittest
 import unittest.mock
 
-from programs import LARGE, SHOP, Act, SiteTest, commits, escrow_site, is_ended, kill, pid_of, records, wait_until
+from programs import LARGE, SHOP, Act, SiteTest, commits, escrow_site, is_ended, kill, of_large, of_shop, pid_of, records, wait_until
 import escrow
 from escrow import Kind, Outcome, Share, Statement
 from escrow.calls import Change, Kept
@@ -149,8 +149,8 @@ class CloseTest(SiteTest):
         told = self.interrupted(site, lambda: site.change("stock", -1), lambda: site.close(0.2))
         self.assertTrue(is_ended(pid))
         # It was asked, and isn't answered: nothing is guessed, and the next one can tell.
-        self.assertEqual((type(told), told.id), (escrow.Unknown, "1.1"))
-        self.assertEqual(self.served(site.folder).outcome("1.1"), Outcome.NOT_COMMITTED)
+        self.assertEqual((type(told), told.id), (escrow.Unknown, of_shop("1.1")))
+        self.assertEqual(self.served(site.folder).outcome(of_shop("1.1")), Outcome.NOT_COMMITTED)
 
     def test_what_was_asked_is_in_doubt_and_what_was_not_is_down(self) -> None:
         site = self.site()
@@ -169,10 +169,10 @@ class CloseTest(SiteTest):
 
     def test_a_call_that_comes_as_it_is_closed_is_answered(self) -> None:
         site = self.site()
-        call = Kept("1.1")
+        call = Kept(of_shop("1.1"), "1.1")
         waiter = call.waiter = ThreadWaiter()
         with self.assertRaises(ValueError):
-            site.outcome("1.1")
+            site.outcome(of_shop("1.1"))
         site.change("stock", -1)
         site.pipeline.submit((call,))
         closes = threading.Thread(target=site.close, args=(20.0,))
@@ -207,7 +207,7 @@ class PipeTest(SiteTest):
             os.kill(pid, signal.SIGCONT)
             return await asyncio.gather(*asked)
 
-        self.assertEqual(asyncio.run(calls()), [f"1.{number}" for number in range(1, many + 1)])
+        self.assertEqual(asyncio.run(calls()), [of_large(f"1.{number}") for number in range(1, many + 1)])
         site.close()
         self.assertEqual(len(commits(site.folder, LARGE)), many)
 
@@ -231,7 +231,7 @@ class PipeTest(SiteTest):
                 assert isinstance(call.waiter, ThreadWaiter)
                 call.waiter.wait()
         site.close()
-        self.assertEqual(commits(site.folder, SHOP), {"1.1": (("stock", -1),), "1.2": (("stock", -2),)})
+        self.assertEqual(commits(site.folder, SHOP), {of_shop("1.1"): (("stock", -1),), of_shop("1.2"): (("stock", -2),)})
 
     def test_it_is_closed_over_a_full_pipe(self) -> None:
         site = self.site(LARGE, sync=False)
@@ -341,7 +341,7 @@ class PatienceTest(SiteTest):
         gate.open()
         wait_until(lambda: site.up)
         self.assertEqual(site.outcome(t.id), Outcome.NOT_COMMITTED)
-        self.assertEqual(site.change("stock", -1), "2.1")
+        self.assertEqual(site.change("stock", -1), of_shop("2.1"))
 
 
 class FakeTest(SiteTest):

@@ -14,7 +14,7 @@ import unittest.mock
 from collections.abc import Callable
 from typing import Any
 
-from programs import LARGE, SHOP, Killer, SiteTest, commits, escrow_site, kill, pid_of, wait_until
+from programs import LARGE, SHOP, Killer, SiteTest, commits, escrow_site, kill, of_large, of_shop, pid_of, wait_until
 import escrow
 from escrow import Outcome, Refusal
 from escrow.calls import Change
@@ -80,7 +80,7 @@ class TurnTest(SiteTest):
         asyncio.run(calls())
         site.close()
         self.assertEqual(len(set(told)), 20 * WIDE)
-        self.assertEqual(set(commits(site.folder, LARGE)), {*told, f"1.{20 * WIDE + 1}"})
+        self.assertEqual(set(commits(site.folder, LARGE)), {*told, of_large(f"1.{20 * WIDE + 1}")})
 
     def test_a_thread_does_not_wait_for_a_loop_that_is_held_up(self) -> None:
         site, come = self.site(LARGE), threading.Event()
@@ -98,8 +98,8 @@ class TurnTest(SiteTest):
             await asyncio.sleep(0)
             threading.Thread(target=reads).start()
             self.assertTrue(come.wait(20))  # it holds up the loop
-            self.assertEqual(site.change("stock", -1), "1.2")  # so does this
-            self.assertEqual(await asked, "1.1")
+            self.assertEqual(site.change("stock", -1), of_large("1.2"))  # so does this
+            self.assertEqual(await asked, of_large("1.1"))
 
         asyncio.run(calls())
 
@@ -196,7 +196,7 @@ class StopTest(SiteTest):
             commit = asyncio.create_task(u.commit())
             await until(lambda: site.unanswered == 4)
             kill(site)
-            self.assertEqual(await asyncio.gather(*changes), ["2.1", "2.2", "2.3"])
+            self.assertEqual(await asyncio.gather(*changes), [of_shop("2.1"), of_shop("2.2"), of_shop("2.3")])
             with self.assertRaises(escrow.Over):
                 await t.commit()
             with self.assertRaises(escrow.Lost):
@@ -204,7 +204,7 @@ class StopTest(SiteTest):
 
         asyncio.run(calls())
         site.close()
-        self.assertEqual(set(commits(site.folder, SHOP)), {"2.1", "2.2", "2.3"})
+        self.assertEqual(set(commits(site.folder, SHOP)), {of_shop("2.1"), of_shop("2.2"), of_shop("2.3")})
 
     def test_answers_that_fit_no_line_end_the_process(self) -> None:
         path = os.path.join(self.place, "turns")
@@ -264,7 +264,7 @@ class AnswerTest(SiteTest):
             return await asyncio.gather(*(shop.change("stock", it) for it in changes), return_exceptions=True)
 
         told = asyncio.run(calls())
-        self.assertEqual([it for it in told if isinstance(it, str)], ["1.1", "1.3", "1.5", "1.6"])
+        self.assertEqual([it for it in told if isinstance(it, str)], [of_shop("1.1"), of_shop("1.3"), of_shop("1.5"), of_shop("1.6")])
         self.assertEqual([(type(told[at]), told[at].share, told[at].kind.value) for at in (1, 3, 6)],
                          [(escrow.Short, 19, "lower"), (escrow.Short, 33, "raise"), (escrow.Short, 0, "lower")])  # fmt: skip
         self.assertEqual(site.counts.refusals, {Refusal.SHORT: 3})
@@ -281,7 +281,7 @@ class AnswerTest(SiteTest):
     def test_answers_that_come_in_pieces(self) -> None:
         told, refusal = [], "0 escrow 7.2 stock -9 -> refused 7 short 5\n0 commit 7.2 -> committed\n"
         for size in (1, 2, 50, 70, 1000):
-            line = Pipeline(0, frozenset({"stock"}), lambda _: None, None)
+            line = Pipeline(0, "0" * 64, frozenset({"stock"}), lambda _: None, None)
             back, to = os.pipe()
             line.stand(7, to)
             calls = [Change() for _ in range(4)]
@@ -323,9 +323,9 @@ class AnswerTest(SiteTest):
             with self.assertRaises(asyncio.CancelledError):
                 await never
             os.kill(pid_of(site), signal.SIGCONT)
-            self.assertEqual(await late, "1.1")
-            self.assertEqual([await shop.outcome(f"1.{it}") for it in (1, 2, 3)], [Outcome.COMMITTED] * 3)
-            self.assertEqual(await shop.change("stock", -1), "1.4")
+            self.assertEqual(await late, of_shop("1.1"))
+            self.assertEqual([await shop.outcome(of_shop(f"1.{it}")) for it in (1, 2, 3)], [Outcome.COMMITTED] * 3)
+            self.assertEqual(await shop.change("stock", -1), of_shop("1.4"))
 
         asyncio.run(calls())
 
@@ -364,7 +364,7 @@ class AnswerTest(SiteTest):
             made[2].wake = None  # it was cancelled
             return made
 
-        desk = Desk(loop, Pipeline(0, frozenset(), lambda _: None, None))
+        desk = Desk(loop, Pipeline(0, "0" * 64, frozenset(), lambda _: None, None))
         with self.assertRaises(KeyboardInterrupt):
             desk.wake(calls(4))
         loop.run_until_complete(asyncio.sleep(0))

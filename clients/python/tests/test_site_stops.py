@@ -23,6 +23,8 @@ from programs import (
     commits,
     escrow_site,
     kill,
+    of_large,
+    of_shop,
     totals,
     wait_until,
 )
@@ -191,7 +193,7 @@ class StopTest(SiteTest):
         for thread in threads:
             thread.join()
         self.assertEqual((site.epoch, site.open, site.pipeline.begun, site.unanswered), (2, 8, 8, 0))
-        self.assertEqual({t.id for t in late}, {f"2.{number}" for number in range(1, 9)})
+        self.assertEqual({t.id for t in late}, {of_large(f"2.{number}") for number in range(1, 9)})
         for t in late:
             t.commit()
         self.assertEqual(site.share("stock"), Share(500_000 - 8, 500_000 + 8))
@@ -308,10 +310,10 @@ class UnansweredTest(SiteTest):
 
     def test_a_change_is_made_once(self) -> None:
         site = self.cut(0)
-        self.assertEqual(site.change("stock", -3), "1.1")
-        self.assertEqual(site.change("stock", -2), "2.1")
+        self.assertEqual(site.change("stock", -3), of_shop("1.1"))
+        self.assertEqual(site.change("stock", -2), of_shop("2.1"))
         site.close()
-        self.assertEqual(commits(site.folder, SHOP), {"1.1": (("stock", -3),), "2.1": (("stock", -2),)})
+        self.assertEqual(commits(site.folder, SHOP), {of_shop("1.1"): (("stock", -3),), of_shop("2.1"): (("stock", -2),)})
 
     def test_a_change_of_a_task_is_made_once(self) -> None:
         site = self.cut(0)
@@ -319,17 +321,17 @@ class UnansweredTest(SiteTest):
         async def changes() -> str:
             return await escrow.AsyncSite(site).change("stock", -3)
 
-        self.assertEqual(asyncio.run(changes()), "1.1")
+        self.assertEqual(asyncio.run(changes()), of_shop("1.1"))
         site.close()
-        self.assertEqual(commits(site.folder, SHOP), {"1.1": (("stock", -3),)})
+        self.assertEqual(commits(site.folder, SHOP), {of_shop("1.1"): (("stock", -3),)})
 
     def test_a_commit_is_told(self) -> None:
         site = self.cut(3)  # begin and two escrows
         with site.transaction() as t:
             t.lower("stock", 3)
             t.lower("seats", 1)
-        self.assertEqual((t.id, site.epoch), ("1.1", 2))
-        self.assertEqual(site.outcome("1.1"), Outcome.COMMITTED)
+        self.assertEqual((t.id, site.epoch), (of_shop("1.1"), 2))
+        self.assertEqual(site.outcome(of_shop("1.1")), Outcome.COMMITTED)
 
     def test_a_commit_of_a_task_is_told(self) -> None:
         site = self.cut(2)
@@ -339,8 +341,8 @@ class UnansweredTest(SiteTest):
                 await t.lower("stock", 3)
             return t.id
 
-        self.assertEqual(asyncio.run(sells()), "1.1")
-        self.assertEqual(site.outcome("1.1"), Outcome.COMMITTED)
+        self.assertEqual(asyncio.run(sells()), of_shop("1.1"))
+        self.assertEqual(site.outcome(of_shop("1.1")), Outcome.COMMITTED)
 
     def test_a_gift_is_given_once(self) -> None:
         site = self.cut(1)  # the restate that asks for the total before it
