@@ -1,5 +1,5 @@
-//! Sells one by one from many threads over one served site, through its stops: `seller ESCROW_SITE FOLDER FIELD THREADS SALES`.
-//! A client in another language is this: lines out, lines in, in the same order. docs/FORMATS.md has all of them.
+//! Sells one by one from many threads over one served site, through its stops; first it asks of the IDs that a run before left in
+//! doubt. A client in another language is this: lines out, lines in, in the same order. docs/FORMATS.md has all of them.
 use std::io::{BufRead, BufReader, Write};
 use std::process::{Child, ChildStdin, ChildStdout, Command, ExitStatus, Stdio};
 use std::sync::{atomic::AtomicI64, atomic::Ordering, mpsc::channel, mpsc::Receiver, mpsc::Sender, Mutex};
@@ -8,6 +8,7 @@ use std::thread::{self, JoinHandle};
 /// One process that serves a site, from its ready line to its end.
 struct Site {
     child: Child,
+    front: String, // of each id: the first digits of the world's name
     number: String,
     epoch: String,
     input: Mutex<Input>,
@@ -52,10 +53,12 @@ impl Site {
             return Err(child.wait().unwrap());
         }
         assert_eq!(words[..2], ["ready", "1"], "these lines are of another version");
+        let whose = std::fs::read_to_string(format!("{folder}/site")).expect("the file `site` can't be read");
+        let front = format!("{}-", &whose.lines().find_map(|it| it.strip_prefix("world ")).expect("no world")[..8]);
         let (asked, waiting) = channel();
         let reader = thread::spawn(move || read_answers(output, waiting));
         let input = Mutex::new(Input { pipe: child.stdin.take().unwrap(), asked, begun: 0 });
-        Ok(Site { child, number: words[4].clone(), epoch: words[2].clone(), input, reader })
+        Ok(Site { child, front, number: words[4].clone(), epoch: words[2].clone(), input, reader })
     }
 
     /// Sends lines that stand together; their replies come in order. Fewer come where a stop leaves them out.
@@ -78,14 +81,14 @@ impl Site {
         match told.get(1) {
             Some(reply) if reply != "granted" => Sale::Refused(reply.clone()), // the commit then changes nothing
             _ if told.get(2).is_some_and(|it| it == "committed") => Sale::Sold,
-            _ => Sale::LeftOut(id),
+            _ => Sale::LeftOut(format!("{}{id}", self.front)),
         }
     }
 
-    /// Whether the commit is in the log; None where a stop came before the answer.
+    /// Whether the commit is in the log; None where a stop came before the answer. A site knows nothing of ids of other worlds.
     fn kept(&self, id: &str) -> Option<bool> {
-        let replies = self.send(&mut self.input.lock().unwrap(), &[format!("kept {id}")]);
-        replies.recv().ok().map(|it| it == "yes")
+        let line = id.strip_prefix(&self.front).expect("this id is of another world: look in the old folder's log");
+        self.send(&mut self.input.lock().unwrap(), &[format!("kept {line}")]).recv().ok().map(|it| it == "yes")
     }
 
     /// Closes the input, so that the process ends once all is answered.
@@ -97,7 +100,6 @@ impl Site {
 }
 
 /// What is sold so far, the sales in doubt, and what refused the last one.
-#[derive(Default)]
 struct Tally {
     sold: i64,
     doubt: Vec<String>,
@@ -107,12 +109,10 @@ struct Tally {
 /// What each thread does: it sells until nothing is left to sell, one is refused, or the process stops.
 fn sell_on(site: &Site, field: &str, left: &AtomicI64, tally: &Mutex<Tally>) {
     while left.fetch_sub(1, Ordering::Relaxed) > 0 {
-        let sale = site.sell(field);
-        let mut tally = tally.lock().unwrap();
-        match sale {
-            Sale::Sold => tally.sold += 1,
-            Sale::Refused(why) => return tally.refusal = Some(why),
-            Sale::LeftOut(id) => return tally.doubt.push(id),
+        match site.sell(field) {
+            Sale::Sold => tally.lock().unwrap().sold += 1,
+            Sale::Refused(why) => return tally.lock().unwrap().refusal = Some(why),
+            Sale::LeftOut(id) => return tally.lock().unwrap().doubt.push(id),
         }
     }
 }
@@ -134,9 +134,9 @@ fn run(words: &[String], threads: usize, sales: i64, tally: &Mutex<Tally>) -> Re
 
 fn main() {
     let words: Vec<String> = std::env::args().collect();
-    assert_eq!(words.len(), 6, "use: seller ESCROW_SITE FOLDER FIELD THREADS SALES");
+    assert!(words.len() >= 6, "use: seller ESCROW_SITE FOLDER FIELD THREADS SALES [ID..]");
     let (threads, sales) = (words[4].parse().expect("THREADS"), words[5].parse().expect("SALES"));
-    let (tally, mut stops) = (Mutex::new(Tally::default()), 0);
+    let (tally, mut stops) = (Mutex::new(Tally { sold: 0, doubt: words[6..].to_vec(), refusal: None }), 0);
     loop {
         match run(&words, threads, sales, &tally).unwrap_or_else(|ended_before| ended_before).code() {
             Some(0) if tally.lock().unwrap().doubt.is_empty() => break,
