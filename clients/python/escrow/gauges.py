@@ -7,26 +7,24 @@ from typing import Optional
 
 from .calls import Line
 from .pipeline import Pipeline
-from .records import name_of_log
-from .schema import Identity
+from .schema import Schema
 from .steps import share
 from .values import Share
 from .waiters import ThreadWaiter
 
 
 class Gauges:
-    """The length of a site's log and its free rights. Neither waits for a site that doesn't stand."""
+    """The size of a site's log and its free rights. Neither waits for a site that doesn't stand."""
 
-    def __init__(self, pipeline: Pipeline, folder: str, whose: Identity) -> None:
+    def __init__(self, pipeline: Pipeline, folder: str, schema: Schema) -> None:
         self._pipeline, self._log = pipeline, os.path.join(folder, "log")
-        self._name = len(name_of_log(whose))
-        self._fields = [field.name for field in whose.schema.fields]
+        self._fields = [field.name for field in schema.fields]
         self._waiter: Optional[ThreadWaiter] = None
 
     def length(self) -> Optional[int]:
-        """The bytes of the log behind its name; None where there is none."""
+        """The bytes of the log's file; None where there is none."""
         try:
-            return max(0, os.stat(self._log).st_size - self._name)
+            return os.stat(self._log).st_size
         except OSError:
             return None
 

@@ -76,7 +76,7 @@ class Source(Protocol):
     """A site as its numbers look at it. Neither may wait for one that is down."""
 
     def length(self) -> int | None:
-        """The bytes of its log's records now, where that can be told."""
+        """The bytes of its log's file now, where that can be told."""
 
     def shares(self, seconds: float) -> Mapping[str, tuple[int, int]] | None:
         """By field how many rights are free now, to lower it and to raise it; None where that isn't told in so many
@@ -240,8 +240,8 @@ class Metrics:
             Family("escrow_starts_total", "Times that the process was ready.", Type.COUNTER, _alone(self._starts)),
             Family("escrow_stops_total", "Ends of the process, by status; below 0 the signal.", Type.COUNTER, stops),
             Family("escrow_epoch", "Epoch of the last start.", Type.GAUGE, _alone(self._epoch)),
-            Family("escrow_log_bytes", "Bytes of the log now, less its three first lines.", Type.GAUGE,
-                   _alone(self._length)),
+            Family("escrow_log_bytes", "Bytes of the log's file now; until it is looked at, of its records at the last start.",
+                   Type.GAUGE, _alone(self._length)),
             Family("escrow_waiting_calls", "Calls that aren't answered yet.", Type.GAUGE, _alone(self._waiting)),
             Family("escrow_open_transactions", "Open transactions, of 64 places.", Type.GAUGE, _alone(self._open)),
         ]

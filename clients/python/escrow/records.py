@@ -1,35 +1,132 @@
-"""What the log of a site tells of who served it."""
+"""The records in the file of a site's log, of either version, by docs/FORMATS.md: how far they have come, and who served the
+site."""
 
 from __future__ import annotations
 
 import os
+import threading
+from typing import BinaryIO, NamedTuple, Optional
 
-from .schema import Identity
+from .errors import Down
 from .values import Mark
 
+HEADS = {b"escrow log 1\n": (1, 3), b"escrow log 2\n": (2, 5)}
+"""The version of a log, and how many lines it has in front of its records, by the first of them."""
+SUM, SUM_LINE = b"sum ", 21
+"""In version 2 such a line, of so many bytes, closes each batch of records. No record has a lower-case letter, so these
+stand nowhere else."""
+WINDOW = 1 << 16
+"""Bytes of a log that are looked at together."""
 
-def name_of_log(whose: Identity) -> str:
-    """The lines that a site's log begins with: its length counts what stands behind them."""
-    return f"escrow log 1\nnumber {whose.number}\nworld {whose.world}\n"
+
+class Head(NamedTuple):
+    """What a log begins with: its version, and where in the file its records begin."""
+
+    version: int
+    end: int
 
 
-def served_between(folder: str, whose: Identity, ours: Mark, now: Mark) -> bool:
+class Place(NamedTuple):
+    """How far a log was looked through: `end` is where in the file, and `length` the bytes of records in front of it."""
+
+    end: int
+    length: int
+
+
+class Records:
+    """How long the records of a log are. Each look reads on from where the last one ended; any thread may look."""
+
+    def __init__(self, path: str) -> None:
+        self.path, self._lock = path, threading.Lock()
+        self._file = (0, 0)  # whose log was looked through: its device and number
+        self._head, self._place = Head(1, 0), Place(0, 0)
+
+    def length(self) -> int:
+        """The bytes of the records: in version 1 of all behind the head, also of a torn end; in version 2 of the batches
+        that a sum closes. Raises `OSError` where the log can't be looked at, and `Down` where it is none."""
+        with self._lock, open(self.path, "rb") as log:
+            told = os.fstat(log.fileno())
+            file = told.st_dev, told.st_ino
+            if file != self._file or told.st_size < self._place.end:  # another one was put in its place
+                self._file, self._head = file, _head(log, self.path)
+                self._place = Place(self._head.end, 0)
+            if self._head.version == 1:
+                return told.st_size - self._head.end
+            self._place = _closed(log, self._place, told.st_size)
+            return self._place.length
+
+
+def length_before_start(path: str, epoch: int) -> Optional[int]:
+    """The bytes of the records in front of that of the start that began this epoch; None where there is none. Raises as
+    `Records.length`."""
+    with open(path, "rb") as log:
+        head = _head(log, path)
+        start = find_last(log, b"\nR %d\n" % epoch, os.fstat(log.fileno()).st_size) + 1
+        if start <= 0:
+            return None
+        place = Place(head.end, 0)
+        if head.version != 1:
+            place = _closed(log, place, start)
+        return place.length + start - place.end
+
+
+def served_between(folder: str, ours: Mark, now: Mark) -> bool:
     """Whether somebody else may have served the site between a run of ours and the one that has just begun.
 
     `ours` and `now` are the marks of both starts. A start that was stopped before it was ready leaves its restart in
-    the log, and nothing else; whoever serves the site leaves more. Reads what was added since `ours`, where the epochs
+    the log, and nothing else; whoever serves the site leaves more. Reads what was added since our run, where the epochs
     don't follow one another.
     """
     if now.epoch == ours.epoch + 1:
         return False
-    our_next, is_behind = b"R %d\n" % (ours.epoch + 1), False
     try:
         with open(os.path.join(folder, "log"), "rb") as log:
-            log.seek(len(name_of_log(whose)) + ours.length)
-            for record in log:
-                is_behind = is_behind or record == our_next
-                if is_behind and record[:2] not in (b"R ", b"S "):
-                    return True
+            place = find_last(log, b"\nR %d\n" % (ours.epoch + 1), os.fstat(log.fileno()).st_size) + 1
+            log.seek(max(place, 0))
+            return place <= 0 or any(line[:2] not in (b"R ", b"S ") for line in log if not line.startswith(SUM))
     except OSError:
         return True
-    return not is_behind
+
+
+def find_last(file: BinaryIO, wanted: bytes, end: int) -> int:
+    """Where these bytes stand last before this end; -1 where they don't."""
+    while end >= len(wanted):
+        start = max(0, end - WINDOW)
+        file.seek(start)
+        at = file.read(end - start).rfind(wanted)
+        if at >= 0:
+            return start + at
+        if start == 0:
+            break
+        end = start + len(wanted) - 1  # they may stand across the two windows
+    return -1
+
+
+def _head(log: BinaryIO, path: str) -> Head:
+    log.seek(0)
+    first = log.readline()
+    if first not in HEADS:
+        raise Down(f"{path}: isn't of escrow log 1 or 2", 3)
+    version, lines = HEADS[first]
+    return Head(version, len(first) + sum(len(log.readline()) for _ in range(lines - 1)))
+
+
+def _closed(log: BinaryIO, place: Place, limit: int) -> Place:
+    """The place behind the last batch in front of this limit that a sum closes, from the end of an earlier one on."""
+    log.seek(place.end)
+    rest, left = b"", limit - place.end
+    while left > 0 and (piece := log.read(min(WINDOW, left))):
+        left -= len(piece)
+        rest += piece
+        end = _end_of_last(rest)
+        place = Place(place.end + end, place.length + end - rest.count(SUM, 0, end) * SUM_LINE)
+        rest = rest[end:]
+    return place
+
+
+def _end_of_last(text: bytes) -> int:
+    """Where the last whole line of a sum ends; 0 where there is none."""
+    at = text.rfind(SUM)
+    if at + SUM_LINE > len(text):
+        at = text.rfind(SUM, 0, at + 1)
+    return at + SUM_LINE if at >= 0 else 0

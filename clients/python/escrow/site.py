@@ -20,6 +20,7 @@ from .gauges import Gauges
 from .numbers import amount_of, site_of
 from .pipeline import Counts, Pipeline, Watch
 from .program import Path, find_program
+from .records import Records
 from .schema import identity
 from .steps import GivenKey, Steps, TightenedKey, share
 from .supervisor import Backoff, Orders, Supervisor
@@ -87,6 +88,7 @@ class Site:
         """Called with each statement that is issued, in a thread of its own, in order: it has to reach its receiver."""
         self.on_start: list[Callable[[], object]] = []
         """Called at each start after the first, in the same thread: what was issued before may not have been told."""
+        self._records = Records(os.path.join(self.folder, "log"))
         self._program = os.fspath(program) if program else find_program()
         self._hooks, self._clock = Errands(f"escrow hooks {self.number}"), Errands(f"escrow time limits {self.number}")
         self._is_fork = False
@@ -105,7 +107,7 @@ class Site:
             self.close(max(0.0, end - time.monotonic()))
             raise
         if hasattr(metrics, "looks_at"):
-            metrics.looks_at(Gauges(self.pipeline, self.folder, whose))
+            metrics.looks_at(Gauges(self.pipeline, self.folder, self.schema))
 
     def _wait(self, seconds: float) -> None:
         stands, why = self._supervisor.wait(seconds), self.pipeline.dead
@@ -120,6 +122,7 @@ class Site:
             self._hooks.soon(lambda hook=hook: hook(statement))  # type: ignore[misc]
 
     def _started(self) -> None:
+        self._records = Records(self._records.path)  # whoever put another log there did so before
         for hook in tuple(self.on_start):
             self._hooks.soon(hook)
 
@@ -145,18 +148,19 @@ class Site:
     def newest_mark(self) -> Mark:
         """How far its log has come by now, as far as that is safe: for a start elsewhere, as `mark`.
 
-        The file may have bytes of a batch that isn't synced yet. So its size is taken first, and then the site is
+        The file may have records of a batch that isn't synced yet. So their length is taken first, and then the site is
         asked: it takes one batch behind another, and the answers of each leave once the log is synced. What stood in
         the log before the question is of earlier batches: with the answer it is safe. What a stop left half-written is
-        cut off before the next process stands: so a size counts where the process that stood before it was taken
-        answers. It is never less than `mark`. Raises `Down`, and `OSError` where the log can't be looked at.
+        cut off before the next process stands: so a length counts where the process that stood before it was taken
+        answers. It is never less than `mark`. Of a log of version 2 the first call behind a start reads all, as the start
+        does, and a later one what came since. Raises `Down`, and `OSError` where the log can't be looked at.
         """
         while True:
-            epoch, size = self.epoch, _size_of_records(os.path.join(self.folder, "log"))
+            epoch, length = self.epoch, self._records.length()
             self.share(self.schema.fields[0].name)
             mark = self.mark
             if mark.epoch == epoch == self.epoch:
-                return Mark(epoch, max(size, mark.length))
+                return Mark(epoch, max(length, mark.length))
 
     @property
     def pid(self) -> Optional[int]:
@@ -426,13 +430,6 @@ class AsyncSite:
     async def outcome(self, id: str) -> Outcome:
         """As `Site.outcome`."""
         return await self._ask(self.site._kept(id))
-
-
-def _size_of_records(path: str) -> int:
-    """How many bytes stand in a log behind its own three lines."""
-    with open(path, "rb") as log:
-        name = sum(len(log.readline()) for _ in range(3))
-        return os.fstat(log.fileno()).st_size - name
 
 
 def _lock(path: str) -> int:

@@ -213,7 +213,7 @@ class Supervisor:
         mark = _mark(ready)
         if mark.epoch <= self._pipeline.epoch:
             raise Faulty(f"epoch {mark.epoch} behind epoch {self._pipeline.epoch}")
-        if self._pipeline.epoch and served_between(self._orders.folder, self._orders.whose, self.mark or mark, mark):
+        if self._pipeline.epoch and served_between(self._orders.folder, self.mark or mark, mark):
             self._pipeline.era += 1
         self.mark = mark
         if self._watch is not None:

@@ -5,11 +5,10 @@ from __future__ import annotations
 import os
 import threading
 import weakref
-from typing import BinaryIO, Optional
+from typing import Optional
 
 from escrow import Down, Mark, Site
-
-WINDOW = 1 << 16                                        # bytes of a log that are looked at together
+from escrow.records import length_before_start
 
 
 class Marks:
@@ -68,21 +67,5 @@ def _before_first_start(site: Site) -> Mark:
     others stopped before they were ready, a later start may be taken for the first: then less is seen."""
     starts, mark = site.counts.starts, site.mark        # in this order: a start between must not count alone
     first = mark.epoch - starts + 1
-    with open(os.path.join(site.folder, "log"), "rb") as log:
-        name = sum(len(log.readline()) for _ in range(3))
-        place = _find_last(log, b"\nR %d\n" % first, name + mark.length)
-    return Mark(first - 1, mark.length if place < 0 else place + 1 - name)
-
-
-def _find_last(file: BinaryIO, wanted: bytes, end: int) -> int:
-    """Where these bytes stand last before this end; -1 where they don't."""
-    while end >= len(wanted):
-        start = max(0, end - WINDOW)
-        file.seek(start)
-        at = file.read(end - start).rfind(wanted)
-        if at >= 0:
-            return start + at
-        if start == 0:
-            break
-        end = start + len(wanted) - 1                   # they may stand across the two windows
-    return -1
+    length = length_before_start(os.path.join(site.folder, "log"), first)
+    return Mark(first - 1, mark.length if length is None else length)

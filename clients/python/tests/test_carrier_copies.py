@@ -3,7 +3,6 @@ over a folder of files. Bytes of records are counted by hand."""
 from __future__ import annotations
 
 import fcntl
-import io
 import os
 import shutil
 import signal
@@ -23,7 +22,7 @@ from test_carrier_sites import CALM, NEVER, SHOPS, Sites
 
 from escrow import Down, Kind, Mark, Site
 from escrow_carrier import Carrier, Folder, Medium, last_mark
-from escrow_carrier.marks import _find_last, marks_of
+from escrow_carrier.marks import marks_of
 
 if not MISSING:
     from escrow_carrier import Mqtt
@@ -310,22 +309,13 @@ class MarksTest(Copied):
             site.change("stock", -1)
             site.change("stock", 1)
         site.close()
-        with open(os.path.join(self.shop, "log"), "rb") as log:
-            name, size = sum(len(log.readline()) for _ in range(3)), os.fstat(log.fileno()).st_size
+        length = sum(len(" ".join(words)) + 1 for words in records(self.shop))
         site = self.serve()
         self.assertEqual([it[:2] for it in records(self.shop)[-2:]], [["R", "2"], ["S", "2"]])
-        with patch("escrow_carrier.marks.WINDOW", 8):
+        with patch("escrow.records.WINDOW", 8):
             os.kill(site.pid or 0, signal.SIGKILL)
             site.change("stock", -1)
-            self.assertEqual(marks_of(site).start, Mark(1, size - name))
-
-    def test_bytes_are_found_across_windows(self) -> None:
-        with patch("escrow_carrier.marks.WINDOW", 8):
-            for place in range(40):
-                text = b"-" * place + b"\nR 2\n" + b"-" * 20
-                self.assertEqual(_find_last(io.BytesIO(text), b"\nR 2\n", len(text)), place)
-                self.assertEqual(_find_last(io.BytesIO(text), b"\nR 3\n", len(text)), -1)
-                self.assertEqual(_find_last(io.BytesIO(text), b"\nR 2\n", place + 4), -1)
+            self.assertEqual(marks_of(site).start, Mark(1, length))
 
     def test_a_copy_carries_nothing(self) -> None:
         topic = f"{self.top}/0/given/1/stock/lower"

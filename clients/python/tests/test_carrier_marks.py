@@ -68,10 +68,10 @@ class NewestMarkTest(Sites):
         site = self.sites[0]
         path = os.path.join(site.folder, "log")
         with open(path, "rb") as log:
-            name = b"".join(log.readlines()[:3])
+            text = log.read()
         os.rename(path, f"{path}.old")
         with open(path, "wb") as log:
-            log.write(name)
+            log.write(text[: text.index(b"R 1\n")])
         self.assertEqual(site.newest_mark(), Mark(1, START))
 
     def test_while_it_sells_and_is_killed_it_never_falls(self) -> None:

@@ -113,7 +113,7 @@ escrow_stops_total{site="2",status="6"} 0
 # HELP escrow_epoch Epoch of the last start.
 # TYPE escrow_epoch gauge
 escrow_epoch{site="2"} 8
-# HELP escrow_log_bytes Bytes of the log now, less its three first lines.
+# HELP escrow_log_bytes Bytes of the log's file now; until it is looked at, of its records at the last start.
 # TYPE escrow_log_bytes gauge
 escrow_log_bytes{site="2"} 1500
 # HELP escrow_waiting_calls Calls that aren't answered yet.
@@ -349,6 +349,7 @@ class OverASite(unittest.TestCase):
                     site.accept(escrow.Statement(1, 0, "stock", escrow.Kind.LOWER, 51))
                 self.assertEqual(site.read("stock"), escrow.Interval(15, 65))
                 before = read(text_of([numbers]))
+                self.assertEqual(before["escrow_log_bytes"][(("site", "0"),)], os.path.getsize(os.path.join(folder, "log")))
                 assert site.pid
                 os.kill(site.pid, signal.SIGKILL)
                 self.assertEqual(site.share("stock"), escrow.Share(15, 35))
@@ -356,16 +357,14 @@ class OverASite(unittest.TestCase):
             ended = read(text_of([numbers]))
         self.check_before(before)
         alone = (("site", "0"),)
-        # The log has R 1, three records C 1 N 0 -1 and one C 1 5 0 -2, and R 2, each with its line feed.
-        self.assertEqual([after[f"escrow_{it}"][alone] for it in ("up", "starts_total", "epoch", "log_bytes")], [1, 2, 2, 52])
+        self.assertEqual([after[f"escrow_{it}"][alone] for it in ("up", "starts_total", "epoch")], [1, 2, 2])
         self.assertEqual(after["escrow_stops_total"][alone + (("status", "-9"),)], 1)
         self.assertEqual(after["escrow_share_rights"], {(("field", "stock"), ("kind", "lower")) + alone: 15,
                                                         (("field", "stock"), ("kind", "raise")) + alone: 35})
         self.assertEqual((ended["escrow_up"][alone], ended["escrow_stops_total"][alone + (("status", "0"),)]), (0, 1))
 
     def check_before(self, samples: dict[str, dict[tuple[tuple[str, str], ...], float]]) -> None:
-        """What was counted up to the kill. Of 20 rights to lower five are sold, and to raise there are five more. The
-        log has R 1, three records C 1 N 0 -1 and one C 1 5 0 -2."""
+        """What was counted up to the kill. Of 20 rights to lower five are sold, and to raise there are five more."""
         alone = (("site", "0"),)
         asked = samples["escrow_answers_total"]
         answers = {"change": 4, "escrow": 1, "commit": 1, "accept": 1, "read": 1}
@@ -377,8 +376,8 @@ class OverASite(unittest.TestCase):
         self.assertEqual(samples["escrow_share_rights"], {(("field", "stock"), ("kind", "lower")) + alone: 15,
                                                           (("field", "stock"), ("kind", "raise")) + alone: 35})
         self.assertEqual(samples["escrow_answer_seconds_count"], {alone: sum(asked.values())})
-        state = [samples[f"escrow_{it}"][alone] for it in ("up", "epoch", "log_bytes", "open_transactions")]
-        self.assertEqual(state, [1, 1, 48, 0])
+        state = [samples[f"escrow_{it}"][alone] for it in ("up", "epoch", "open_transactions")]
+        self.assertEqual(state, [1, 1, 0])
         self.assertEqual(sum(samples["escrow_stops_total"].values()), 0)
 
 
@@ -409,23 +408,29 @@ class Looked(programs.SiteTest):
                 (("field", "stock"), ("kind", "raise")) + SITE: 30 + stock}
 
     def test_length_moves_while_the_site_runs(self) -> None:
-        """R 1 has 4 bytes, each C 1 N 0 -1 has 11 and R 2 has 4, each with its line feed."""
         site = self.site(metrics=self.numbers)
-        lengths = [self.told("log_bytes")[SITE]]
+        log = os.path.join(site.folder, "log")
+
+        def told() -> int:
+            """The file's own size."""
+            size = os.path.getsize(log)
+            self.assertEqual(self.told("log_bytes")[SITE], size)
+            return size
+
+        sizes = [told()]
         for _ in range(3):
             site.change("stock", -1)
-            lengths.append(self.told("log_bytes")[SITE])
+            sizes.append(told())
         programs.kill(site)
         programs.wait_until(lambda: site.up and site.epoch == 2)
-        lengths.append(self.told("log_bytes")[SITE])
-        self.assertEqual(lengths, [4, 15, 26, 37, 41])
-        self.assertEqual(site.mark.length, 41)
+        sizes.append(told())
+        self.assertTrue(all(more > less for less, more in zip(sizes, sizes[1:])), sizes)
         site.close()
-        with open(os.path.join(site.folder, "log"), "a", encoding="ascii") as file:
+        with open(log, "a", encoding="ascii") as file:
             file.write("R 3\n")
-        self.assertEqual(self.told("log_bytes")[SITE], 45)
-        os.unlink(os.path.join(site.folder, "log"))
-        self.assertEqual(self.told("log_bytes")[SITE], 45)
+        self.assertEqual(told(), sizes[-1] + 4)
+        os.unlink(log)
+        self.assertEqual(self.told("log_bytes")[SITE], sizes[-1] + 4)
 
     def test_what_is_left_without_anybody_who_asks(self) -> None:
         """All fields are there in the first text; later texts ask where something moved."""
