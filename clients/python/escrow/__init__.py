@@ -7,6 +7,7 @@
             t.lower("stock", 3)
 """
 
+from .device import DeviceFault
 from .errors import (
     Down,
     EscrowError,
@@ -30,7 +31,8 @@ from .transaction import AsyncTransaction, Transaction
 from .values import Interval, Kind, Mark, Outcome, Share, Spared, Statement
 
 __all__ = [
-    "AsyncSite", "AsyncTransaction", "Backoff", "Counts", "Down", "EscrowError", "Field", "Forged", "Interval", "Kind",
-    "Lost", "Mark", "NothingGiven", "OtherWorld", "Outcome", "Over", "ProgramError", "Refusal", "Refused", "Schema", "Share",
-    "Short", "Shown", "Site", "Spared", "Statement", "Transaction", "Unknown", "Watch", "create", "find_program", "show",
+    "AsyncSite", "AsyncTransaction", "Backoff", "Counts", "DeviceFault", "Down", "EscrowError", "Field", "Forged",
+    "Interval", "Kind", "Lost", "Mark", "NothingGiven", "OtherWorld", "Outcome", "Over", "ProgramError", "Refusal",
+    "Refused", "Schema", "Share", "Short", "Shown", "Site", "Spared", "Statement", "Transaction", "Unknown", "Watch",
+    "create", "find_program", "show",
 ]  # fmt: skip

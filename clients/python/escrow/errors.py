@@ -6,6 +6,7 @@ import enum
 from collections.abc import Sequence
 from typing import Optional
 
+from .device import DeviceFault, device_fault
 from .values import Kind
 
 
@@ -60,6 +61,12 @@ _ADVICE = {
 
 class EscrowError(Exception):
     """Any trouble with a site."""
+
+    @property
+    def device(self) -> Optional[DeviceFault]:
+        """Which call of the system failed at the site's files, and why, where the trouble came of that and the program
+        told it."""
+        return device_fault(str(self))
 
 
 class Refused(EscrowError):
@@ -136,7 +143,7 @@ class Unknown(EscrowError):
 class Down(EscrowError):
     """The site isn't served. What was called was never asked of it, and nothing was changed.
 
-    `status` is the one with which the program ended, where it did.
+    `status` is the one with which the program ended, where it did; with 5 `device` tells the fault of the disk.
     """
 
     def __init__(self, why: str, status: Optional[int] = None) -> None:

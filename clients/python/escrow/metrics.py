@@ -1,8 +1,9 @@
 """Numbers to watch, in the text form that Prometheus reads (version 0.0.4).
 
 One `Metrics` for each site. Who talks to the site calls it: `answered` for each answer, `refused` for each refusal besides,
-`shared` where free rights were told, `started` and `stopped` at each start and end of the process, `missed` where a call ends
-without its answer, `waits` and `holds` for what is under way. Each may be called from any thread, and takes about a microsecond.
+`shared` where free rights were told, `started` and `stopped` at each start and end of the process, `faulted` where a fault of the
+disk ended it, `missed` where a call ends without its answer, `waits` and `holds` for what is under way. Each may be called from any
+thread, and takes about a microsecond.
 What is to be looked at instead, the log's length and the free rights, it tells once, by `looks_at`.
 `text_of` writes the numbers of one or many sites, `write` puts them in a file for a collector that reads files, and
 `serve` answers them over HTTP. Nothing here knows the client.
@@ -90,7 +91,7 @@ class Metrics:
     """
 
     __slots__ = ("site", "_bounds", "_lock", "_answers", "_seconds", "_refusals", "_shares", "_missed",
-                 "_starts", "_stops", "_up", "_epoch", "_length", "_waiting", "_open", "_others",
+                 "_starts", "_stops", "_faults", "_up", "_epoch", "_length", "_waiting", "_open", "_others",
                  "_source", "_due", "_seen")
 
     def __init__(self, site: int, seconds: Sequence[float] = SECONDS) -> None:
@@ -107,6 +108,7 @@ class Metrics:
         self._missed: Counter[str] = Counter(dict.fromkeys(OUTCOMES, 0))
         self._starts = 0
         self._stops: Counter[int] = Counter(dict.fromkeys(STATUSES, 0))
+        self._faults: Counter[tuple[str, str, str, int]] = Counter()
         self._up = False
         self._epoch = self._length = self._waiting = self._open = 0
         self._others: list[Other] = []
@@ -163,6 +165,12 @@ class Metrics:
         with self._lock:
             self._stops[status] += 1
             self._up = False
+
+    def faulted(self, file: str, call: str, reason: str, number: int) -> None:
+        """A call of the system failed at a file of the site, and the process ended: whether it was to read, write, cut or
+        sync, and the system's words and number for why."""
+        with self._lock:
+            self._faults[file, call, reason, number] += 1
 
     def waits(self, calls: int) -> None:
         """So many calls were made and aren't answered yet."""
@@ -234,11 +242,15 @@ class Metrics:
         shares = [Sample("", (("field", field), ("kind", kind)), rights)
                   for (field, kind), rights in sorted(self._shares.items())]
         stops = [Sample("", (("status", str(status)),), count) for status, count in sorted(self._stops.items())]
+        faults = [Sample("", (("file", file), ("call", call), ("reason", reason), ("number", str(number))), count)
+                  for (file, call, reason, number), count in sorted(self._faults.items())]
         return [
             Family("escrow_share_rights", "Free rights here, what is left of each field, by kind.", Type.GAUGE, shares),
             Family("escrow_up", "1 where the process is ready, else 0.", Type.GAUGE, _alone(int(self._up))),
             Family("escrow_starts_total", "Times that the process was ready.", Type.COUNTER, _alone(self._starts)),
             Family("escrow_stops_total", "Ends of the process, by status; below 0 the signal.", Type.COUNTER, stops),
+            Family("escrow_device_faults_total", "Ends of the process by a call of the system that failed at a file, and why.",
+                   Type.COUNTER, faults),
             Family("escrow_epoch", "Epoch of the last start.", Type.GAUGE, _alone(self._epoch)),
             Family("escrow_log_bytes", "Bytes of the log's file now; until it is looked at, of its records at the last start.",
                    Type.GAUGE, _alone(self._length)),

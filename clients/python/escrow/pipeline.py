@@ -32,7 +32,8 @@ NUMBERS = 1_000_000_000
 class Watch(Protocol):
     """Who counts what happens: `escrow.metrics.Metrics` does. Called from several threads, sometimes under a lock.
 
-    One that has `looks_at`, as that has, is told what it may look at besides (`Gauges`).
+    One that has `looks_at`, as that has, is told what it may look at besides (`Gauges`), and one that has `faulted` of each
+    fault of the disk.
     """
 
     def answered(self, command: str, seconds: float, count: int = 1) -> None:

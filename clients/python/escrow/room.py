@@ -1,23 +1,13 @@
-"""Whether a disk has room: by what the program told of a fault, and by a look."""
+"""Whether a disk has room, by a look."""
 
 from __future__ import annotations
 
 import errno
 import os
-import re
-from typing import Optional
 
 ROOM = 1 << 16
 """With fewer bytes that can be written a disk counts as full."""
 _FULL = (errno.ENOSPC, errno.EDQUOT)
-_TOLD = re.compile(r": device fault: (read|write|cut|sync): .*\(os error (\d+)\): ")
-
-
-def lacks_room(told: str) -> Optional[bool]:
-    """Whether a fault of the disk is want of room, by the call that failed and the system's number; None where the program
-    told neither. A sync that failed never is: what was written may be lost."""
-    found = _TOLD.search(told)
-    return None if found is None else found[1] != "sync" and int(found[2]) in _FULL
 
 
 def has_room(folder: str) -> bool:

@@ -12,10 +12,11 @@ from collections.abc import Callable
 from dataclasses import dataclass
 from typing import IO, NamedTuple, Optional
 
+from .device import device_fault
 from .errors import Down, Faulty
 from .pipeline import Pipeline, Watch
 from .records import served_between
-from .room import has_room, lacks_room
+from .room import has_room
 from .schema import Identity
 from .values import Mark
 
@@ -152,8 +153,8 @@ class Supervisor:
         and why; where it doesn't, the disk is looked at."""
         if self.last_status != DISK:
             return False
-        is_full = lacks_room(self.last_error)
-        if not (is_full if is_full is not None else not has_room(self._orders.folder)):
+        fault = device_fault(self.last_error)
+        if not (fault.lacks_room if fault is not None else not has_room(self._orders.folder)):
             return False
         self.last_error += FULL
         return True
@@ -237,8 +238,14 @@ class Supervisor:
         process.stderr.close()
         self._process = None
         self._pipeline.fall()
+        self._tell_end(self.last_status)
+
+    def _tell_end(self, status: int) -> None:
         if self._watch is not None:
-            self._watch.stopped(self.last_status)
+            self._watch.stopped(status)
+            fault = device_fault(self.last_error) if status == DISK else None
+            if fault is not None and hasattr(self._watch, "faulted"):
+                self._watch.faulted(*fault)
 
     # The writer's thread: what the pipe didn't take at once.
 

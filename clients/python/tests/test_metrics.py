@@ -110,6 +110,9 @@ escrow_stops_total{site="2",status="3"} 0
 escrow_stops_total{site="2",status="4"} 0
 escrow_stops_total{site="2",status="5"} 0
 escrow_stops_total{site="2",status="6"} 0
+# HELP escrow_device_faults_total Ends of the process by a call of the system that failed at a file, and why.
+# TYPE escrow_device_faults_total counter
+escrow_device_faults_total{site="2",file="log",call="sync",reason="Input/output error",number="5"} 1
 # HELP escrow_epoch Epoch of the last start.
 # TYPE escrow_epoch gauge
 escrow_epoch{site="2"} 8
@@ -135,6 +138,7 @@ def told() -> Metrics:
     numbers.refused("escrow", 7, "short")
     numbers.shared("stock", lower=9)
     numbers.stopped(-9)
+    numbers.faulted("log", "sync", "Input/output error", 5)
     numbers.missed("lost")
     numbers.started(8, 1500)
     numbers.answered("commit", 0.5, 1)

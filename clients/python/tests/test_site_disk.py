@@ -5,19 +5,26 @@ from __future__ import annotations
 import asyncio
 import errno
 import os
+import shutil
 import subprocess
 import threading
 import time
 import unittest
 import unittest.mock
+from typing import Optional
 
-from programs import LARGE, SiteTest, commits, escrow_site, of_large, wait_until
+from programs import LARGE, TOP, SiteTest, commits, escrow_site, of_large, wait_until
 import escrow
-from escrow import Outcome, Share
+from escrow import DeviceFault, Outcome, Share
+from escrow.device import device_fault
 from escrow.metrics import Metrics, text_of
-from escrow.room import has_room, lacks_room
+from escrow.room import has_room
 
 FULL = "the disk is full: make room on it: the site starts again by itself"
+NO_ROOM = DeviceFault("log", "write", "No space left on device", errno.ENOSPC)
+REFUSED = DeviceFault("log", "sync", "Input/output error", errno.EIO)
+SHIM = os.path.join(TOP, ".ci", "refuse_syncs.c")
+COMPILER = next((it for it in ("cc", "clang") if shutil.which(it)), "")
 PIECE = bytes(4096)
 
 
@@ -77,13 +84,15 @@ class FullTest(DiskTest):
         with self.assertRaises(escrow.Down) as down:
             site.read("stock")
         self.assertEqual(down.exception.status, 5)
-        self.assertIn("device fault", str(down.exception))
+        self.assertEqual((fault.device, down.exception.device), (NO_ROOM, NO_ROOM))
         self.assertIn(FULL, str(down.exception))
         self.assertIn(FULL, site.last_error)
         time.sleep(1.5)
         # It isn't tried while the disk is full.
         self.assertEqual((site.counts.starts, site.counts.stops, site.up), (1, 1, False))
         self.assertIn('escrow_stops_total{site="0",status="5"} 1\n', text_of([metrics]))
+        self.assertIn('escrow_device_faults_total{site="0",file="log",call="write",reason="No space left on device",number="28"} 1\n',
+                      text_of([metrics]))
         self.make_room()
         wait_until(lambda: site.up, 10.0)
         self.assertEqual({site.outcome(id) for id in sold}, {Outcome.COMMITTED})
@@ -210,8 +219,10 @@ class RoomTest(DiskTest):
                              ("write: Disk quota exceeded (os error 122)", True),
                              ("write: Input/output error (os error 5)", False),
                              ("sync: No space left on device (os error 28)", False)):  # fmt: skip
-            self.assertIs(lacks_room(told.format(why)), is_full, why)
-        self.assertIsNone(lacks_room("escrow_site: shop/log: device fault: nothing more is answered"))
+            fault = device_fault(told.format(why))
+            assert fault is not None
+            self.assertEqual((fault.lacks_room, f"{fault.call}: {fault.reason} (os error {fault.number})"), (is_full, why))
+        self.assertIsNone(device_fault("escrow_site: shop/log: device fault: nothing more is answered"))
 
     def test_a_fault_with_room_is_final(self) -> None:
         """As a sync that fails: it isn't started again, and no calls wait for it."""
@@ -228,11 +239,56 @@ class RoomTest(DiskTest):
             site.read("stock")
         self.assertLess(time.monotonic() - began, 10.0)
         self.assertEqual(down.exception.status, 5)
+        self.assertEqual(down.exception.device, DeviceFault("log", "write", "File too large", errno.EFBIG))
         for text in (str(fault), str(down.exception)):
             self.assertIn("after a sync that failed start the machine anew", text)
             self.assertNotIn("the disk is full", text)
         time.sleep(1.2)
         self.assertEqual((site.counts.starts, site.counts.stops), (1, 1))
+
+
+@unittest.skipIf(not COMPILER, "no C compiler is installed here")
+class SyncTest(SiteTest):
+    """A sync of the log that fails, by the library of .ci/refuse_syncs.c in front of the program's."""
+
+    def refusing(self, number: int) -> str:
+        """A program whose so manieth sync is refused."""
+        library, program = os.path.join(self.place, "refuse.so"), os.path.join(self.place, "refusing")
+        words = [COMPILER, "-O2", "-fPIC", "-shared", "-nostdlib", "-o", library, SHIM]
+        subprocess.run(words, check=True, capture_output=True)
+        with open(program, "w", encoding="ascii") as file:
+            file.write(f"#!/bin/sh\nLD_PRELOAD={library!r} REFUSE_AT={number} REFUSE_TELL=9 exec {escrow_site()!r} \"$@\"\n")
+        os.chmod(program, 0o755)
+        return program
+
+    def sold(self, folder: str, program: str, metrics: Metrics) -> Optional[escrow.EscrowError]:
+        """What a start, or a sale behind it, was told."""
+        try:
+            site = escrow.Site(folder, program=program, metrics=metrics)
+            self.addCleanup(site.close)
+            site.change("stock", -1)
+            return None
+        except escrow.EscrowError as fault:
+            return fault
+
+    def test_each_sync_that_fails_is_told_and_final(self) -> None:
+        """Of a start and a sale behind it: the reason is in what is raised and among the numbers, and it is over."""
+        sample = 'escrow_device_faults_total{site="0",file="log",call="sync",reason="Input/output error",number="5"} 1\n'
+        refused = 0
+        for number in range(1, 20):
+            metrics = Metrics(0)
+            fault = self.sold(self.folder(name=f"shop{number}"), self.refusing(number), metrics)
+            if fault is None:
+                break
+            refused += 1
+            self.assertEqual(fault.device, REFUSED)
+            self.assertIn("start the machine anew", str(fault))
+            time.sleep(0.2)
+            text = text_of([metrics])
+            self.assertIn(sample, text)
+            self.assertIn('escrow_stops_total{site="0",status="5"} 1\n', text)
+        self.assertIsNone(fault)
+        self.assertGreater(refused, 1)
 
 
 if __name__ == "__main__":
