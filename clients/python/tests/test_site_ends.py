@@ -283,6 +283,55 @@ class RefusedTest(SiteTest):
                 call()
             self.assertEqual(down.exception.status, 3)
 
+    def flip(self, folder: str, record: bytes) -> None:
+        """One bit of the first byte of a record is another one on the disk."""
+        with open(f"{folder}/log", "r+b") as file:
+            text = file.read()
+            at = text.index(record)
+            file.seek(at)
+            file.write(bytes([text[at] ^ 1]))
+
+    def told(self, folder: str) -> str:
+        """What the program itself tells of it."""
+        ran = subprocess.run([escrow_site(), "serve", folder], input="", capture_output=True, text=True, check=False)
+        self.assertEqual((ran.returncode, ran.stdout), (3, ""))
+        self.assertIn(f"{folder}/log: ", ran.stderr)
+        return ran.stderr.strip()
+
+    def test_a_flipped_bit_is_told_in_the_words_of_the_program(self) -> None:
+        """And nothing is served, nor tried again; the log stays as it is."""
+        site, metrics = self.site(LARGE), Metrics(0)
+        for _ in range(5):
+            site.change("stock", -1)
+        site.close()
+        self.flip(site.folder, b"C 1 3 0 -1\n")
+        with open(f"{site.folder}/log", "rb") as file:
+            before = file.read()
+        with self.assertRaises(escrow.Down) as raised:
+            escrow.Site(site.folder, program=escrow_site(), metrics=metrics)
+        self.assertEqual((str(raised.exception), raised.exception.status), (self.told(site.folder), 3))
+        time.sleep(0.5)
+        stops = [line for line in text_of([metrics]).split("\n") if line.startswith("escrow_stops_total") and line[-1] != "0"]
+        self.assertEqual(stops, ['escrow_stops_total{site="0",status="3"} 1'])
+        with open(f"{site.folder}/log", "rb") as file:
+            self.assertEqual(file.read(), before)
+
+    def test_a_bit_that_flips_while_the_site_is_served_ends_it_at_its_next_start(self) -> None:
+        site = self.site(LARGE)
+        for _ in range(5):
+            site.change("stock", -1)
+        self.flip(site.folder, b"C 1 3 0 -1\n")
+        site.change("stock", -1)  # the process has read its log, and goes on
+        pid = pid_of(site)
+        kill(site)
+        wait_until(lambda: is_ended(pid))
+        for _ in range(3):
+            with self.assertRaises(escrow.Down) as down:
+                site.change("stock", -1)
+            self.assertEqual((str(down.exception), down.exception.status), (self.told(site.folder), 3))
+        time.sleep(0.5)
+        self.assertEqual((site.counts.starts, site.counts.stops, site.pid), (1, 2, None))
+
     def test_a_folder_that_is_none(self) -> None:
         with self.assertRaises(escrow.Down) as raised:
             escrow.Site(self.place, program=escrow_site())
