@@ -309,13 +309,16 @@ class OverFolders(unittest.TestCase):
         other = create(self.at + "/other", '{"sites":1,"fields":[{"name":"stock","floor":0,"ceiling":9,"value":4}]}', 1)
         shutil.copytree(self.folders[0], self.at + "/copy")
         with open(self.folders[2] + "/log", "a", encoding="ascii") as file:
-            file.write("C 7 7 0 -1\n")
+            file.write("nonsense\n")
+        shown = subprocess.run([PROGRAM, "show", self.folders[2]], capture_output=True, text=True, check=False, timeout=30)
+        self.assertEqual(shown.returncode, 3)
+        self.assertIn(f"{self.folders[2]}/log: ", shown.stderr)
         told = self.told(self.folders[0], self.at + "/none", *other, self.at + "/copy", self.folders[2])
         self.assertEqual(told["alarms"], [
             f"{self.at}/none/site: No such file or directory: a site's folder is made by create",
             f"{other[0]}: is of another world: it isn't counted",
             f"{self.at}/copy: is of site 0, as a folder before it: two of one site sell twice",
-            f"escrow_site: {self.folders[2]}/log: line 1 is no record of this site: put its own newest log back"])
+            shown.stderr.strip()])
         self.assertEqual((told["missing"], told["fields"][0]["value"], told["fields"][0]["low"]), ([1, 2], None, 14))
 
     def test_what_comes_back_is_shown(self) -> None:

@@ -266,9 +266,7 @@ class RefusedTest(SiteTest):
         self.damaged(site.folder)
         with self.assertRaises(escrow.Down) as raised:
             escrow.Site(site.folder, program=escrow_site())
-        self.assertEqual(raised.exception.status, 3)
-        # The name of the log has three lines; records are counted from 1.
-        self.assertIn("line 3 is no record of this site", str(raised.exception))
+        self.assertEqual((str(raised.exception), raised.exception.status), (self.told(site.folder), 3))
 
     def test_a_log_that_is_damaged_while_the_site_is_served(self) -> None:
         site = self.site()
