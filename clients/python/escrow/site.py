@@ -17,7 +17,7 @@ from .desk import Desks
 from .errands import Errands
 from .errors import Down, Interrupted
 from .gauges import Gauges
-from .numbers import amount_of, site_of
+from .numbers import SHORT, amount_of, line_id, site_of
 from .pipeline import Counts, Pipeline, Watch
 from .program import Path, find_program
 from .records import Records
@@ -77,12 +77,9 @@ class Site:
         `last_id` is no id, and `OtherWorld` where it is one of another world.
         """
         self.folder = os.path.abspath(os.fspath(folder))
-        whose = identity(self.folder)
-        self.number, self.world, self.schema = whose
-        names = frozenset(field.name for field in self.schema.fields)
-        self.pipeline = Pipeline(self.number, self.world, names, self._issued, metrics)
+        self.number, self.world, self.schema = identity(self.folder)
         if last_id is not None:
-            self.pipeline.line_id(last_id)
+            line_id(self.world[:SHORT], last_id)
         self.metrics = metrics
         self.on_statement: list[Callable[[Statement], object]] = []
         """Called with each statement that is issued, in a thread of its own, in order: it has to reach its receiver."""
@@ -93,9 +90,11 @@ class Site:
         self._hooks, self._clock = Errands(f"escrow hooks {self.number}"), Errands(f"escrow time limits {self.number}")
         self._is_fork = False
         self._folder_lock = _lock(os.path.join(self.folder, "site"))
+        names = frozenset(field.name for field in self.schema.fields)
+        self.pipeline = Pipeline(self.number, self.world, names, self._issued, metrics)
         self._steps = Steps(self.pipeline, self.folder, self._program)
         options = (*(("--trace",) if trace else ()), *(() if sync else ("--no-sync",)))
-        orders = Orders(self.folder, whose, (self._program, "serve", self.folder, *options), backoff, patience)
+        orders = Orders(self.folder, (self._program, "serve", self.folder, *options), backoff, patience)
         self._supervisor = Supervisor(orders, self.pipeline, self._started, metrics, not_before)
         _open_sites.add(self)
         end = time.monotonic() + wait

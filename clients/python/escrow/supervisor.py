@@ -17,7 +17,6 @@ from .errors import Down, Faulty
 from .pipeline import Pipeline, Watch
 from .records import served_between
 from .room import has_room
-from .schema import Identity
 from .values import Mark
 
 VERSION = "1"
@@ -53,7 +52,6 @@ class Orders:
     """What to start, and how patiently: `patience` is how many seconds calls wait for a site that doesn't stand."""
 
     folder: str
-    whose: Identity
     command: tuple[str, ...]
     backoff: Backoff
     patience: float

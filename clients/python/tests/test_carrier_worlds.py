@@ -87,11 +87,14 @@ class Worlds(unittest.TestCase):
             time.sleep(0.02)
 
     def sell_out(self, world: World) -> None:
-        """Both sites sell three at a time, as long as there are any anywhere; then one sells what is left."""
+        """Both sites sell three at a time, as long as there are any anywhere; then one sells what is left of the 500."""
+        sold = []
+
         def sell(carrier: Carrier) -> None:
             try:
                 while True:
                     carrier.change("seats", -3)
+                    sold.append(3)
             except Short:
                 pass
         threads = [threading.Thread(target=sell, args=(it,)) for it in world.carriers]
@@ -102,10 +105,12 @@ class Worlds(unittest.TestCase):
 
         def is_sold_out() -> bool:
             try:
-                world.carriers[0].change("seats", -1)
-            except Short:
+                if sum(sold) < 500:
+                    world.carriers[0].change("seats", -1)
+                    sold.append(1)
+            except Short:                               # it is on its way
                 pass
-            return sum(world.lower()) == 0
+            return sum(sold) == 500
         self.await_it(is_sold_out)
 
     def judge(self, folders: list[str], value: int) -> None:
