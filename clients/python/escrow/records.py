@@ -13,8 +13,8 @@ from .values import Mark
 HEADS = {b"escrow log 1\n": (1, 3), b"escrow log 2\n": (2, 5)}
 """The version of a log, and how many lines it has in front of its records, by the first of them."""
 SUM, SUM_LINE = b"sum ", 21
-"""In version 2 such a line, of so many bytes, closes each batch of records. No record has a lower-case letter, so these
-stand nowhere else."""
+"""In version 2 such a line, of so many bytes, closes each batch of records. No record has an `s`, so these stand nowhere
+else."""
 WINDOW = 1 << 16
 """Bytes of a log that are looked at together."""
 

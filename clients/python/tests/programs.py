@@ -63,6 +63,16 @@ def escrow_site() -> str:
     return next((line[len("file ") :] for line in told.splitlines() if line.startswith("file ")), script)
 
 
+@functools.cache
+def makes_sums() -> bool:
+    """Whether the program makes logs of version 2, whose batches have sums."""
+    with tempfile.TemporaryDirectory() as place:
+        folder = os.path.join(place, "shop")
+        escrow.create(folder, SHOP, 0, program=escrow_site(), name=WORLD)
+        with open(os.path.join(folder, "log"), encoding="ascii") as log:
+            return log.readline() == "escrow log 2\n"
+
+
 class SiteTest(unittest.TestCase):
     """A test with a folder of its own, in which it makes folders of sites."""
 

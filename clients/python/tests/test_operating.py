@@ -7,7 +7,7 @@ import os
 import subprocess
 import unittest
 
-from programs import TOP, SiteTest, escrow_site
+from programs import TOP, SiteTest, escrow_site, makes_sums
 
 WORLD = "number 0\nworld 145aa8408cfe4e170aa9ab522fe2e8b9b4c23917b59218cbdada91cf44b1183a\n"
 VERSION_1 = {
@@ -20,8 +20,9 @@ VERSION_1 = {
 }  # fmt: skip
 """Each kind of record: of 20 rights to lower 7 were given, 3 accepted and 2 spent; of 30 to raise 5 given up, and 2
 came."""
+LOST = "escrow_site: the logs of these sites are lost: 1 2: {}put the newest ones back to settle\n"
 SECTIONS = {
-    "Choose floors and ceilings": "escrow_site: the logs of these sites are lost: 1 2: put the newest ones back to settle\n",
+    "Choose floors and ceilings": LOST.format("nothing was closed: " if makes_sums() else ""),
     "Reservations that last": "",
     "Begin a new world": "",
 }
