@@ -7,7 +7,10 @@ import os
 import subprocess
 import unittest
 
-from programs import TOP, SiteTest, escrow_site, makes_sums
+from programs import TOP, SiteTest, escrow_site, kill, makes_sums
+import escrow
+from escrow import Mark, Outcome, Share
+from escrow_carrier.marks import marks_of
 
 WORLD = "number 0\nworld 145aa8408cfe4e170aa9ab522fe2e8b9b4c23917b59218cbdada91cf44b1183a\n"
 VERSION_1 = {
@@ -57,14 +60,18 @@ class OperatingTest(SiteTest):
 class VersionTest(SiteTest):
     """Folders of version 1, and of another one."""
 
-    def serve(self, files: dict[str, str]) -> subprocess.CompletedProcess[str]:
-        """What a folder of these files answers."""
+    def written(self, files: dict[str, str]) -> str:
+        """A folder of these files."""
         folder = os.path.join(self.place, "shop")
         os.makedirs(folder, exist_ok=True)
         for name, text in files.items():
             with open(os.path.join(folder, name), "w", encoding="ascii") as file:
                 file.write(text)
-        words, lines = [escrow_site(), "serve", folder, "--trace"], "kept 1.1\n0 share stock\n"
+        return folder
+
+    def serve(self, files: dict[str, str]) -> subprocess.CompletedProcess[str]:
+        """What a folder of these files answers."""
+        words, lines = [escrow_site(), "serve", self.written(files), "--trace"], "kept 1.1\n0 share stock\n"
         return subprocess.run(words, input=lines, capture_output=True, text=True, check=False, timeout=60)
 
     def test_version_1(self) -> None:
@@ -72,6 +79,19 @@ class VersionTest(SiteTest):
         told = "ready 1 2 87\n0 restart -> restarted 2 nothing\nkept 1.1 -> yes\n0 share stock -> share 14 27\n"
         done = self.serve(VERSION_1)
         self.assertEqual((done.returncode, done.stdout, done.stderr), (0, told, ""))
+
+    def test_a_client_of_version_1(self) -> None:
+        """Its ids and marks: the world is named by its header alone, and the log has no sums, also behind a kill."""
+        with escrow.Site(self.written(VERSION_1), program=escrow_site(), trace=True, last_id="145aa840-1.1") as site:
+            self.assertEqual((site.mark, site.newest_mark()), (Mark(2, 87), Mark(2, 87)))
+            id = site.change("stock", -1)               # `C 2 1 0 -1`, of 11 bytes with its line feed
+            self.assertEqual((id, site.newest_mark()), ("145aa840-2.1", Mark(2, 98)))
+            self.assertEqual({site.outcome(it) for it in ("1.1", "145aa840-1.1", id)}, {Outcome.COMMITTED})
+            kill(site)
+            self.assertEqual((site.share("stock"), site.newest_mark()), (Share(13, 28), Mark(3, 102)))
+            self.assertEqual(marks_of(site).start, Mark(1, 83))
+        with open(os.path.join(self.place, "shop", "log"), encoding="ascii") as file:
+            self.assertEqual(file.read(), VERSION_1["log"] + "R 2\nC 2 1 0 -1\nR 3\n")
 
     def test_another_version(self) -> None:
         for name, why in (("site", "isn't of escrow site 1 or 2: serve it by the version that made it"),

@@ -4,6 +4,7 @@ from __future__ import annotations
 
 import asyncio
 import os
+import random
 import signal
 import subprocess
 import sys
@@ -12,7 +13,22 @@ import time
 import unittest
 import unittest.mock
 
-from programs import LARGE, SHOP, Act, SiteTest, commits, escrow_site, is_ended, kill, of_large, of_shop, pid_of, records, wait_until
+from programs import (
+    LARGE,
+    SHOP,
+    Act,
+    SiteTest,
+    commits,
+    escrow_site,
+    is_ended,
+    kill,
+    makes_sums,
+    of_large,
+    of_shop,
+    pid_of,
+    records,
+    wait_until,
+)
 import escrow
 from escrow import Kind, Outcome, Share, Statement
 from escrow.calls import Change, Kept
@@ -313,6 +329,26 @@ class RefusedTest(SiteTest):
         self.assertEqual(stops, ['escrow_stops_total{site="0",status="3"} 1'])
         with open(f"{site.folder}/log", "rb") as file:
             self.assertEqual(file.read(), before)
+
+    @unittest.skipUnless(makes_sums(), "the program makes logs without sums")
+    def test_any_flipped_bit_of_a_log_with_sums(self) -> None:
+        """Of its head, its batches and their sums."""
+        site, dice = self.site(LARGE), random.Random(11)
+        for _ in range(5):
+            site.change("stock", -1)
+        site.close()
+        with open(f"{site.folder}/log", "rb") as file:
+            text = file.read()
+        for bit in dice.sample(range(8 * len(text)), 24):
+            with open(f"{site.folder}/log", "wb") as file:
+                file.write(text[: bit // 8] + bytes([text[bit // 8] ^ 1 << bit % 8]) + text[bit // 8 + 1 :])
+            with self.assertRaises(escrow.Down) as raised:
+                escrow.Site(site.folder, program=escrow_site())
+            self.assertEqual(raised.exception.status, 3)
+            self.assertRegex(str(raised.exception), "/log: (line [0-9]+: the batch that begins there is damaged|isn't the log of this site)")
+        with open(f"{site.folder}/log", "wb") as file:
+            file.write(text)
+        self.assertEqual(self.served(site.folder).share("stock").lower, 500_000 - 5)
 
     def test_a_bit_that_flips_while_the_site_is_served_ends_it_at_its_next_start(self) -> None:
         site = self.site(LARGE)
