@@ -1,6 +1,6 @@
 //! What is added to an open batch, and to the file that it is closed in.
 
-ghost use Rattle.std.specs.Prelude.{◌≡◌, ◌+◌, ◌<◌, ◌≤◌, ◌++◌, [], ℕ, true, length, take, OnOk, OnErr, vec_len, vec_capacity};
+ghost use Rattle.std.specs.Prelude.{◌≡◌, ◌+◌, ◌<◌, ◌≤◌, ◌++◌, [], true, length, take, OnOk, OnErr, vec_len, vec_capacity};
 ghost use Rattle.std.specs.Io.KnownBytes.{append_known};
 ghost use Rattle.sealed_text.specs.Seals.{sealed_batch, EndsInLineFeed};
 
@@ -8,7 +8,7 @@ use file_medium::{FileFailed, LogFile, write_front};
 use sealed_text::sum_line;
 
 /// The length of a line that closes a batch.
-pub(crate) const SUM_LINE: usize = 21;
+const SUM_LINE: usize = 21;
 
 /// Adds a piece to a batch, and makes room for the line that closes it.
 pub(crate) fn add_piece(batch: &mut Vec<u8>, piece: &[u8]) -> Result<(), FileFailed>

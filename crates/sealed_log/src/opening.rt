@@ -1,8 +1,9 @@
 //! What a file holds when it is opened.
 
-ghost use Rattle.std.specs.Prelude.{◌≡◌, ◌≤◌, ◌⊎◌, length, IfOk, IfErr, OnOk};
+ghost use Rattle.std.specs.Prelude.{◌≡◌, ◌≤◌, ◌⊎◌, false, true, length, IfOk, IfErr, OnOk};
 ghost use Rattle.file_medium.specs.Copies.{IsCopyOf};
 ghost use Rattle.file_medium.specs.Files.{cut_known};
+ghost use Rattle.sealed_log.specs.declared.fault.SealFault.TheVariants.{Ended};
 ghost use Rattle.sealed_log.specs.Sealed.{Closes, LosesNothing, Refuses};
 
 use crate::fault::SealFault;
@@ -28,6 +29,17 @@ fn cut_torn<F: LogFile>(file: &mut F, text: &[u8], whole: usize) -> Result<(), F
     file.sync()
 }
 
+/// Refuses a world that was ended.
+fn refuse_ended(is_ended: bool) -> Result<(), SealFault>
+    ensures ok { OnOk result (is_ended ≡ false) }
+    ensures err { IfErr result (λ fault. (fault ≡ Ended) × (is_ended ≡ true)) }
+{
+    if is_ended {
+        return Err(SealFault::Ended);
+    }
+    Ok(())
+}
+
 /// Syncs a file, reads it whole, and cuts off what a stop has left behind its closed batches.
 pub(crate) fn read_closed<F: LogFile>(alloc: Global, file: &mut F) -> Result<Unsealed, SealFault>
     ensures ok { IfOk result (λ u. Closes (F.bytes file.old) (F.bytes file.new) u.records.items) }
@@ -46,9 +58,7 @@ pub(crate) fn read_closed<F: LogFile>(alloc: Global, file: &mut F) -> Result<Uns
         Err(TextFault::Damaged { line }) => return Err(SealFault::Damaged { line }),
         Err(TextFault::NoMemory) => return Err(SealFault::NoMemory),
     };
-    if unsealed.is_ended {
-        return Err(SealFault::Ended);
-    }
+    refuse_ended(unsealed.is_ended)?;
     cut_torn(file, text.as_slice(), unsealed.whole)?;
     Ok(unsealed)
 }

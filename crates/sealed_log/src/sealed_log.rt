@@ -7,7 +7,7 @@ ghost use Rattle.file_medium.specs.Files.{CutsTo, ReadsAt, cut_known};
 ghost use Rattle.sealed_text.specs.Seals.{IsBatch, end_batch, sealed_batch};
 ghost use Rattle.sealed_log.specs.Sealed.{Opens, Refuses, IsLengthOf, IsOpen, sealed_open};
 
-use crate::adding::{SUM_LINE, add_piece, add_sealed, are_lines};
+use crate::adding::{add_piece, add_sealed, are_lines};
 use crate::fault::SealFault;
 use crate::opening::read_closed;
 use crate::reading::copy_behind;

@@ -86,6 +86,25 @@ fn a_short_write_is_gone_on_with(rt: HostRuntime) {
     assert_eq!(rt; two_batches(&mut log), [true; 11]);
 }
 
+/// Of two batches of two writes the first is closed, and the second isn't.
+fn first_of_two(log: &mut SealedLog<MemoryFile>) -> [bool; 6] {
+    [
+        log.write(b"R 2\n") == Ok(4),
+        log.write(b"R 3\n") == Ok(4),
+        log.sync() == Ok(()),
+        is_filed(log, TWO),
+        log.write(b"R 1\n") == Ok(4),
+        log.sync() == Err(FileFailed),
+    ]
+}
+
+#[test]
+fn a_batch_costs_one_write(rt: HostRuntime) {
+    let file = failing(&rt, rt.alloc(), ONE, FileCall::Write, 1);
+    let mut log = SealedLog::open(rt.alloc(), file).expect(&rt, "opened");
+    assert_eq!(rt; first_of_two(&mut log), [true; 6]);
+}
+
 /// Whether an opening of these bytes leaves those in the file, and tells the records.
 fn opens_as(rt: &impl Abort, alloc: Global, bytes: &[u8], left: &[u8], records: &[u8]) -> bool {
     match SealedLog::open(alloc, file_of(rt, alloc, bytes)) {
