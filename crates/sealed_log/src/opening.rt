@@ -58,7 +58,10 @@ pub(crate) fn read_closed<F: LogFile>(alloc: Global, file: &mut F) -> Result<Uns
         Err(TextFault::Damaged { line }) => return Err(SealFault::Damaged { line }),
         Err(TextFault::NoMemory) => return Err(SealFault::NoMemory),
     };
-    refuse_ended(unsealed.is_ended)?;
+    match refuse_ended(unsealed.is_ended) {
+        Ok(()) => {}
+        Err(fault) => return Err(fault),
+    }
     cut_torn(file, text.as_slice(), unsealed.whole)?;
     Ok(unsealed)
 }

@@ -6,12 +6,12 @@ use Rattle.sealed_log.proofs.Closing.{refuses-ended}
 use Rattle.sealed_log.proofs.Keeping.{loses-cut}
 use Rattle.sealed_log.proofs.opening.read_closed.Goals as goal
 
-pub returns-in_err-refuse_ended-clause-err : goal.returns-in_err-refuse_ended-clause-err
-returns-in_err-refuse_ended-clause-err g c =
+pub returns-in-Err-clause-err : goal.returns-in-Err-clause-err
+returns-in-Err-clause-err g c =
     let text = c.in-Ok.text.items in
     let copy = subst (λ k. IsCopyOf k text) (c.in-Ok.ensures.bytes ∙ c.in_ok-sync.ensures.bytes) c.in-Ok.ensures.copy in
     let unseals = subst (λ t. Unseals t c.in-Ok-unseal.unsealed) c.as_slice.ensures.value c.in-Ok-unseal.ensures.ok in
-    let told = c.in_err-refuse_ended.ensures.err in
+    let told = c.in-Err.ensures.err in
     subst (Refuses (g.F.LogFile.bytes c.args.file.now)) (sym told.0)
     (refuses-ended (g.F.LogFile.bytes c.args.file.now) text c.in-Ok-unseal.unsealed copy unseals told.1)
 
@@ -25,7 +25,7 @@ returns-in_err-cut_torn-clause-kept g c =
     let synced : g.F.LogFile.safe c.read_whole.new.file ≡ held =
     c.in-Ok.ensures.safe ∙ c.in_ok-sync.ensures.ok ∙ c.in_ok-sync.ensures.bytes in
     loses-cut held (g.F.LogFile.safe c.args.file.now) (g.F.LogFile.safe c.read_whole.new.file) (g.F.LogFile.safe c.cut_torn.new.file)
-    text u synced copy unseals c.in_ok-refuse_ended.ensures.ok c.cut_torn.ensures.kept
+    text u synced copy unseals c.in-Ok-refuse_ended.ensures.ok c.cut_torn.ensures.kept
 
 pub returns-clause-kept : goal.returns-clause-kept
 returns-clause-kept g c =
@@ -37,4 +37,4 @@ returns-clause-kept g c =
     let synced : g.F.LogFile.safe c.read_whole.new.file ≡ held =
     c.in-Ok.ensures.safe ∙ c.in_ok-sync.ensures.ok ∙ c.in_ok-sync.ensures.bytes in
     loses-cut held (g.F.LogFile.safe c.args.file.now) (g.F.LogFile.safe c.read_whole.new.file) (g.F.LogFile.safe c.cut_torn.new.file)
-    text u synced copy unseals c.in_ok-refuse_ended.ensures.ok c.cut_torn.ensures.kept
+    text u synced copy unseals c.in-Ok-refuse_ended.ensures.ok c.cut_torn.ensures.kept
