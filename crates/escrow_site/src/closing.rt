@@ -1,5 +1,7 @@
 //! Folders whose world was settled: no site is ever served over them again.
 
+ghost use Rattle.std.specs.Prelude.{◌≡◌, true};
+
 use crate::creating::{sync_path, write_file};
 use crate::fault::{Fault, Why, device_fault, failed, not_closed, refused};
 use crate::folder::Paths;
@@ -7,6 +9,7 @@ use crate::opening::{open_named, open_sealed};
 use crate::worlds::SiteFolder;
 use file_medium::{FileFailed, HostFile, LogFile};
 use named_log::NamedLog;
+use sealed_log::Ends;
 use sealed_text::{end_batch, sum_line};
 use site_folder::sealed_log_name;
 use std::alloc::Global;
@@ -123,15 +126,41 @@ fn close_by_version(
     leave_settled(rt, &folder.paths)
 }
 
-/// Closes the folder of a site, whose log is locked by this file, unless it was closed before. It is
-/// safe then from a stop of the machine.
-pub(crate) fn close_folder(
-    rt: &HostRuntime,
-    folder: &SiteFolder,
-    file: &mut HostFile,
-) -> Result<(), Fault> {
-    match close_by_version(rt, folder, file) {
-        Ok(()) => Ok(()),
-        Err(fault) => Err(not_closed(fault, file.take_fault())),
+/// The folder of a site whose log is locked as long as this lives, to be closed.
+#[derive(Drop)]
+pub(crate) struct LockedFolder<'a> {
+    rt: &'a HostRuntime,
+    folder: &'a SiteFolder,
+    log: HostFile,
+    is_closed: bool,
+}
+
+impl LockedFolder<'_> {
+    pub(crate) fn new<'a>(
+        rt: &'a HostRuntime,
+        folder: &'a SiteFolder,
+        log: HostFile,
+    ) -> LockedFolder<'a> {
+        LockedFolder {
+            rt,
+            folder,
+            log,
+            is_closed: false,
+        }
+    }
+}
+
+impl Ends<Fault> for LockedFolder<'_> {
+    ghost is_ended = { λ l. l.is_closed ≡ true };
+
+    /// Closes the folder, unless it was closed before. It is safe then from a stop of the machine.
+    fn end(&mut self) -> Result<(), Fault> {
+        match close_by_version(self.rt, self.folder, &mut self.log) {
+            Ok(()) => {
+                self.is_closed = true;
+                Ok(())
+            }
+            Err(fault) => Err(not_closed(fault, self.log.take_fault())),
+        }
     }
 }

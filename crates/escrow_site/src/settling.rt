@@ -5,13 +5,13 @@ ghost use Rattle.world_logs.specs.LostBody.{StandsIfKnown, AreForKnownLogs};
 ghost use Rattle.world_logs.specs.Outcomes.{IsOutcome, AreOutcomes};
 
 use crate::checking::{logs_fault, read_outcome, read_standings};
-use crate::closing::{close_folder, is_settled};
+use crate::closing::{LockedFolder, is_settled};
 use crate::fault::{Fault, failed};
 use crate::folder::lock_log;
 use crate::worlds::{World, read_world};
 use field_bounds::{FieldNo, Schema, SiteNo};
-use file_medium::HostFile;
 use log_replay::Standing;
+use sealed_log::end_all;
 use site_tasks::Settling;
 use std::alloc::{AllocError, Global};
 use std::{fs, io};
@@ -153,13 +153,14 @@ fn bound_logs(rt: &HostRuntime, world: &World, lost: &[SiteNo]) -> Result<(), Fa
     }
 }
 
-// The logs of all sites, locked as long as these live: so none is served meanwhile, nor was when they
-// were locked.
-fn lock_logs(rt: &HostRuntime, world: &World) -> Result<Vec<HostFile>, Fault> {
+// The folders of all sites, whose logs are locked as long as these live: so none is served meanwhile,
+// nor was when they were locked.
+fn lock_folders<'a>(rt: &'a HostRuntime, world: &'a World) -> Result<Vec<LockedFolder<'a>>, Fault> {
     let mut locked = Vec::new(rt.alloc());
     for number in 0..world.schema.sites() {
         let folder = world.named_folder(SiteNo(number))?;
-        locked.push(lock_log(rt, &folder.paths)?)?;
+        let log = lock_log(rt, &folder.paths)?;
+        locked.push(LockedFolder::new(rt, folder, log))?;
     }
     Ok(locked)
 }
@@ -175,27 +176,18 @@ fn are_settled(rt: &HostRuntime, world: &World) -> Result<bool, Fault> {
     Ok(true)
 }
 
-// Closes the folders of all sites, whose logs are locked by these files, in their order.
-fn close_folders(rt: &HostRuntime, world: &World, locked: &mut [HostFile]) -> Result<(), Fault> {
-    for (number, file) in locked.iter_mut().enumerate() {
-        let site = SiteNo(number as u16);
-        close_folder(rt, world.named_folder(site)?, file)?;
-    }
-    Ok(())
-}
-
 // Settles a world no log of which is lost: where its header was written, its folders are closed, so that
 // nothing of it is sold once more.
 fn end_world(rt: &HostRuntime, world: &World, how: Settling) -> Result<(), Fault> {
     if how.is_dry {
         return settle_logs(rt, world);
     }
-    let mut locked = lock_logs(rt, world)?;
+    let mut locked = lock_folders(rt, world)?;
     if !how.is_again && are_settled(rt, world)? {
         return Err(Fault::AllSettled);
     }
     settle_logs(rt, world)?;
-    close_folders(rt, world, locked.as_mut_slice())
+    end_all(locked.as_mut_slice())
 }
 
 /// Writes the header of a new world that goes on where the logs of all sites of a world end, and closes

@@ -3,10 +3,12 @@
 #![tactic(auto)]
 
 mod adding;
+mod ending;
 mod fault;
 mod opening;
 mod reading;
 mod sealed_log;
 
+pub use ending::{Ends, end_all};
 pub use fault::SealFault;
 pub use sealed_log::SealedLog;
