@@ -1,0 +1,89 @@
+"""Wrong bodies of the client and the carrier: each file of `wrong` names a mistake that somebody could make, and the
+test that sees it. Each is made in a copy of the packages, where that test has to fail; unmade, it has to pass.
+
+A file has a line `file:` (of the packages), pairs of lines `old:` and `new:`, each `old` exactly once in the file, and a
+line `test:`."""
+from __future__ import annotations
+
+import glob
+import os
+import shutil
+import subprocess
+import sys
+import tempfile
+import unittest
+from typing import NamedTuple
+
+from programs import PACKAGES, TOP
+
+WRONG = os.path.join(PACKAGES, "tests", "wrong")
+
+
+class Edit(NamedTuple):
+    """A mistake: where it is made, what stands there, what is put in its place, and the test that sees it."""
+
+    file: str
+    pairs: list[tuple[str, str]]
+    test: str
+
+
+def read_edit(path: str) -> Edit:
+    file, pairs, test, old = "", [], "", ""
+    with open(path, encoding="utf-8") as lines:
+        for line in lines:
+            word, _, text = line.rstrip("\n").partition(": ")
+            if word == "file":
+                file = text
+            elif word == "old":
+                old = text
+            elif word == "new":
+                pairs.append((old, text))
+            elif word == "test":
+                test = text
+    return Edit(file, pairs, test)
+
+
+def make_mistake(packages: str, edit: Edit) -> None:
+    path = os.path.join(packages, edit.file)
+    with open(path, encoding="utf-8") as it:
+        text = it.read()
+    for old, new in edit.pairs:
+        if text.count(old) != 1:
+            raise ValueError(f"{edit.file}: {old!r} stands {text.count(old)} times in it")
+        text = text.replace(old, new)
+    with open(path, "w", encoding="utf-8") as it:
+        it.write(text)
+
+
+def copy_packages(top: str) -> str:
+    """A copy of the packages in a folder that has all else of the repository by links: where the packages are."""
+    for name in os.listdir(TOP):
+        if name != "clients":
+            os.symlink(os.path.join(TOP, name), os.path.join(top, name))
+    packages = os.path.join(top, "clients", "python")
+    shutil.copytree(PACKAGES, packages, ignore=shutil.ignore_patterns("__pycache__"))
+    return packages
+
+
+def passes(packages: str, test: str) -> bool:
+    words = [sys.executable, "-m", "unittest", "-q", test]
+    ran = subprocess.run(words, cwd=os.path.join(packages, "tests"), capture_output=True, timeout=120, check=False)
+    return ran.returncode == 0
+
+
+class WrongBodiesTest(unittest.TestCase):
+    """Each mistake is seen by its test, which passes without it."""
+
+    def test_each_is_seen(self) -> None:
+        paths = sorted(glob.glob(os.path.join(WRONG, "*.edit")))
+        self.assertTrue(paths)
+        for path in paths:
+            with self.subTest(os.path.basename(path)), tempfile.TemporaryDirectory() as top:
+                edit, packages = read_edit(path), copy_packages(top)
+                self.assertTrue(passes(packages, edit.test), "the test fails without the mistake")
+                make_mistake(packages, edit)
+                self.assertFalse(passes(packages, edit.test), "the mistake isn't seen")
+
+
+if __name__ == "__main__":
+    unittest.main()
