@@ -151,7 +151,7 @@ Example input:
 Its output:
   illegal 2 grant";
 
-const FIELDS_HELP: &str = "Judges field by field, in threads; the answer is the same";
+const FIELDS_HELP: &str = "Judges in two threads; the answer is the same";
 
 /// What the command line asks for.
 #[derive(Clone, Copy)]
