@@ -16,8 +16,10 @@ class NoLog(Exception):
 
 
 def sum_line(text: bytes) -> bytes:
-    """The line that closes a batch: 64 bits of its SHA-256."""
-    return b"sum %s\n" % hashlib.sha256(text).hexdigest()[:16].encode()
+    """The line that closes a batch: what its bytes add up to, and what they add up to with each as often as there are bytes
+    from it to the last one, modulo 2**32."""
+    weighted = sum(byte * (len(text) - at) for at, byte in enumerate(text))
+    return b"sum %08x%08x\n" % (sum(text) % 2**32, weighted % 2**32)
 
 
 def sealed(*batches: bytes) -> bytes:

@@ -67,7 +67,7 @@ impl<F: LogFile + Drop> SealedLog<F> {
     /// The faults: `Damaged`, where the file holds what was neither written so nor left so by a stop,
     /// with the line at which that begins; `Ended`, where the world was ended; `Device`, where a call
     /// of the file failed; `NoMemory`, where memory is wanting. Each lets go of the file, and takes
-    /// nothing of it that a sum closes. Costs one or two syncs, a read of the file and a SHA-256 over
+    /// nothing of it that a sum closes. Costs one or two syncs, a read of the file, two passes over
     /// it, and memory for the file twice, of which that for the records is kept.
     pub fn open(alloc: Global, file: F) -> Result<SealedLog<F>, SealFault>
         ensures opens { IfOk result (Opens (F.bytes file)) }

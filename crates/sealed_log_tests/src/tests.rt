@@ -1,4 +1,4 @@
-//! Each expected answer is worked out by hand from the definitions, and each sum by Python's hashlib.
+//! Each expected answer is worked out by hand from the definitions, and each sum by a line of Python.
 
 use file_medium::{FileCall, FileFailed, FileMishap, LogFile, MemoryFile, read_whole};
 use sealed_log::*;
@@ -6,13 +6,13 @@ use std::alloc::Global;
 use std::process::Abort;
 
 // Of 25 bytes.
-const ONE: &[u8] = b"R 1\nsum 010d01fc6b401c5a\n";
+const ONE: &[u8] = b"R 1\nsum 000000ad00000214\n";
 // Of 54 bytes.
-const TWO: &[u8] = b"R 1\nsum 010d01fc6b401c5a\nR 2\nR 3\nsum 68d29e90ed9340d0\n";
+const TWO: &[u8] = b"R 1\nsum 000000ad00000214\nR 2\nR 3\nsum 0000015d000006e6\n";
 
-const ONE_AND_TWO: &[u8] = b"R 1\nsum 010d01fc6b401c5a\nR 2\nsum 80368344fb7815d9\n";
+const ONE_AND_TWO: &[u8] = b"R 1\nsum 000000ad00000214\nR 2\nsum 000000ae00000216\n";
 
-const ENDED: &[u8] = b"R 1\nsum 010d01fc6b401c5a\nX\nsum 7058299627365fc7\n";
+const ENDED: &[u8] = b"R 1\nsum 000000ad00000214\nX\nsum 00000062000000ba\n";
 
 /// A file in memory that holds these bytes.
 fn file_of(rt: &impl Abort, alloc: Global, bytes: &[u8]) -> MemoryFile {
@@ -135,12 +135,12 @@ fn fault_of(alloc: Global, file: MemoryFile) -> Option<SealFault> {
 fn what_isnt_written_so_is_refused(rt: HostRuntime) {
     let alloc = rt.alloc();
     let faults = [
-        fault_of(alloc, file_of(&rt, alloc, b"R 1\nsum 010d01fc6b401c5b\n")),
+        fault_of(alloc, file_of(&rt, alloc, b"R 1\nsum 000000ad00000215\n")),
         fault_of(
             alloc,
-            file_of(&rt, alloc, b"R 1\nsum 010d01fc6b401c5a\nR 2\nsum 0\n"),
+            file_of(&rt, alloc, b"R 1\nsum 000000ad00000214\nR 2\nsum 0\n"),
         ),
-        fault_of(alloc, file_of(&rt, alloc, b"X\nsum 7058299627365fc7\nR")),
+        fault_of(alloc, file_of(&rt, alloc, b"X\nsum 00000062000000ba\nR")),
         fault_of(alloc, file_of(&rt, alloc, ENDED)),
         fault_of(alloc, file_of(&rt, alloc, ONE)),
     ];

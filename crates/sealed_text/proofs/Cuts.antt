@@ -1,40 +1,35 @@
 -- The one way in which bytes are cut into a batch and the line that closes it.
-use Rattle.std.proofs.Common.{append_assoc, ◌≡◌, ◌≢◌, ℕ, zero, suc, ◌*◌, ◌==◌, ◌⊎◌, true, false, List, [], ◌∷◌, ◌++◌, inl, inr, length, take, drop, bytes_eq, refl, sym, ap, subst, ◌∙◌, arith}
+use Rattle.std.proofs.Common.{append_assoc, ◌≡◌, ◌≢◌, ℕ, zero, suc, ◌*◌, ◌+◌, ◌%◌, ◌^◌, ◌==◌, ◌⊎◌, true, false, List, [], ◌∷◌, ◌++◌, inl, inr, length, take, drop, bytes_eq, refl, sym, ap, subst, ◌∙◌, arith}
 use Rattle.std.specs.List.{AllPass}
 use Rattle.std.proofs.lemmas.List.{append-nil, append_cancel_left, take-append-drop, take_at, length-append}
 use Rattle.std.proofs.lemmas.List.Elements.{All-nil, All-cons, All-head, All-tail, All-same, All-push}
 use Rattle.hex.specs.Hex.{encode_with, encode_lower, lower_digits}
 use Rattle.hex.proofs.HexLemmas.{length-encode_with}
-use Rattle.sha2.specs.Sha256.{sha256}
-use Rattle.sha2.proofs.Facts256.{length-sha256}
-use Rattle.std.proofs.lemmas.List.{length-take-le}
+use Rattle.std.specs.Int.{w32, to_be_bytes}
+use Rattle.std.specs.List.{sum}
 use Rattle.std.proofs.lemmas.Slice.Eq.{bytes_eq-Decides}
-use Rattle.sealed_text.specs.Seals.{sum_of, sum_line, sealed_batch, end_batch, is_batch_byte, IsBatch, IsTorn, IsEnd, IsDamaged}
+use Rattle.sealed_text.specs.Seals.{weighted, digits_of, sum_of, sum_line, sealed_batch, end_batch, is_batch_byte, IsBatch, IsTorn, IsEnd, IsDamaged}
 use Rattle.sealed_text.specs.Rests.{IsClear, BeginsWithS}
 
 -- ---- sums
 
--- a front of bytes has a front of the digits
-pub encode-take : (t xs : List ℕ) (n : ℕ) → encode_with t (take n xs) ≡ take (2 * n) (encode_with t xs)
-unfolding encode_with
-encode-take t xs zero = refl
-encode-take t [] (suc n) =
-    let two : 2 * suc n ≡ suc (suc (2 * n)) = omega arith in
-    rw two refl
-encode-take t (b ∷ xs) (suc n) =
-    let two : 2 * suc n ≡ suc (suc (2 * n)) = omega arith in
-    rw (two, encode-take t xs n) refl
+-- the digits of both sums are those of their bytes together
+pub sum_is : (bytes : List ℕ)
+    → encode_lower (to_be_bytes w32 (sum bytes % 2 ^ 32) ++ to_be_bytes w32 (weighted bytes % 2 ^ 32)) ≡ sum_of bytes
+unfolding sum_of encode_with
+sum_is bytes = refl
 
-pub sum_is : (bytes : List ℕ) → encode_lower (take 8 (sha256 bytes)) ≡ sum_of bytes
-unfolding sum_of
-sum_is bytes = encode-take lower_digits (sha256 bytes) 8
+-- a number has 8 digits
+pub length-digits_of : (n : ℕ) → length (digits_of n) ≡ 8
+length-digits_of n = length-encode_with lower_digits (to_be_bytes w32 (n % 2 ^ 32))
 
 pub length-sum_of : (bytes : List ℕ) → length (sum_of bytes) ≡ 16
 unfolding sum_of
 length-sum_of bytes =
-    let sha = length-sha256 bytes in
-    let digits = length-encode_with lower_digits (sha256 bytes) in
-    length-take-le 16 (encode_lower (sha256 bytes)) (omega (arith, sha, digits))
+    let first = length-digits_of (sum bytes) in
+    let second = length-digits_of (weighted bytes) in
+    let both = length-append (digits_of (sum bytes)) (digits_of (weighted bytes)) in
+    omega (arith, first, second, both)
 
 -- a line that closes a batch has 21 bytes
 pub length-sum_line : (batch : List ℕ) → length (sum_line batch) ≡ 21

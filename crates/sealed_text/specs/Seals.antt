@@ -1,15 +1,24 @@
 -- Texts of batches that sums close (this project).
-use Rattle.std.specs.Prelude.{◌≡◌, ◌≢◌, ◌<◌, ◌+◌, ◌==◌, ◌&&◌, ◌||◌, nat_le, ℕ, Bool, true, false, List, [], ◌∷◌, ◌++◌, length, take, All, codes, count_by, slice_index, slice_set}
-use Rattle.std.specs.List.{AllPass, concat}
+use Rattle.std.specs.Prelude.{◌≡◌, ◌≢◌, ◌<◌, ◌+◌, ◌==◌, ◌&&◌, ◌||◌, nat_le, ℕ, Bool, true, false, List, [], ◌∷◌, ◌++◌, length, take, All, codes, count_by, slice_index, slice_set, ◌*◌, ◌%◌, ◌^◌}
+use Rattle.std.specs.List.{AllPass, concat, sum}
 use Rattle.hex.specs.Hex.{encode_lower}
-use Rattle.sha2.specs.Sha256.{sha256}
+use Rattle.std.specs.Int.{w32, to_be_bytes}
 use Rattle.sealed_text.specs.declared.fault.TextFault.{TextFault}
 use Rattle.sealed_text.specs.declared.fault.TextFault.TheVariants.{Damaged, NoMemory}
 use Rattle.sealed_text.specs.declared.reading.Unsealed.{Unsealed}
 
--- The sum of bytes: the first 64 bits of their SHA-256, as 16 hexadecimal digits of lower case.
+-- Each byte as often as there are bytes from it to the last one, the last one once: the sum of the sums of all fronts.
+abbrev pub weighted : List ℕ → ℕ
+weighted [] = 0
+weighted (b ∷ bs) = (1 + length bs) * b + weighted bs
+
+-- A number modulo 2^32, as 8 hexadecimal digits of lower case.
+abbrev pub digits_of : ℕ → List ℕ
+digits_of n = encode_lower (to_be_bytes w32 (n % 2 ^ 32))
+
+-- The sum of bytes: what they add up to, and what they add up to weighted so (Fletcher 1982, over bytes, modulo 2^32).
 unfoldable pub sum_of : List ℕ → List ℕ
-sum_of bytes = take 16 (encode_lower (sha256 bytes))
+sum_of bytes = digits_of (sum bytes) ++ digits_of (weighted bytes)
 
 -- The line that closes a batch: it tells the sum of the batch.
 abbrev pub sum_line : List ℕ → List ℕ

@@ -1,23 +1,36 @@
 //! Batches, and the lines that close them.
 
-ghost use Rattle.std.specs.Prelude.{◌≡◌, ◌↔◌, IsTrue};
-ghost use Rattle.std.specs.List.{AllPass};
-ghost use Rattle.sealed_text.specs.Seals.{IsBatch, is_batch_byte, sum_line, end_batch};
+ghost use Rattle.std.specs.Prelude.{◌≡◌, ◌↔◌, ◌%◌, ◌^◌, IsTrue};
+ghost use Rattle.std.specs.List.{AllPass, sum};
+ghost use Rattle.sealed_text.specs.Seals.{IsBatch, is_batch_byte, sum_line, weighted, end_batch};
 
-use sha2::{Digest, Sha256};
+// What the bytes add up to, and what they add up to with each as often as there are bytes from it to
+// the last one, modulo 2^32.
+fn sums_of(bytes: &[u8]) -> (u32, u32)
+    ensures total { result.0 ≡ sum bytes.now % 2 ^ 32 }
+    ensures weighted { result.1 ≡ weighted bytes.now % 2 ^ 32 }
+{
+    let mut total = 0u32;
+    let mut weighted = 0u32;
+    for byte in bytes {
+        total = total.wrapping_add(u32::from(*byte));
+        weighted = weighted.wrapping_add(total);
+    }
+    (total, weighted)
+}
 
-// How many bytes of a SHA-256 are told: 64 bits.
-const SUM_BYTES: usize = 8;
-
-/// The line that closes a batch: `sum `, the first 64 bits of the SHA-256 of the batch (FIPS 180-4)
-/// as 16 hexadecimal digits of lower case, and a line feed. Costs a pass over the batch, and no
+/// The line that closes a batch: `sum `, its sum, and a line feed. The sum is what its bytes add up to,
+/// and what they add up to with each as often as there are bytes from it to the last one, both modulo
+/// 2^32 (Fletcher 1982) and as 8 hexadecimal digits of lower case. Costs a pass over the batch, and no
 /// memory.
 pub fn sum_line(batch: &[u8]) -> [u8; 21]
     ensures line { result ≡ sum_line batch.now }
 {
-    let digest = Sha256::digest(batch);
+    let (total, weighted) = sums_of(batch);
+    let [a, b, c, d] = total.to_be_bytes();
+    let [e, f, g, h] = weighted.to_be_bytes();
     let mut line = *b"sum 0000000000000000\n";
-    let _ = hex::encode_to_slice(&digest[..SUM_BYTES], &mut line[4..20]);
+    let _ = hex::encode_to_slice(&[a, b, c, d, e, f, g, h], &mut line[4..20]);
     line
 }
 

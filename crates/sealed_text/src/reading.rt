@@ -31,7 +31,7 @@ fn line_behind(bytes: &[u8]) -> u64
 /// Behind the last closed batch may stand the front of another one with its sum, as a stop leaves
 /// it, or the end of the world alone. The fault is `Damaged` where anything else stands there, so too
 /// where a sum isn't that of its batch, with the line at which that begins; `NoMemory` can come in
-/// place of any answer. Costs a SHA-256 over the text, and memory of the length of the text.
+/// place of any answer. Costs two passes over the text, and memory of the length of the text.
 pub fn unseal(alloc: Global, text: &[u8]) -> Result<Unsealed, TextFault>
     ensures ok { IfOk result (Unseals text.now) }
     ensures err { IfErr result (IsRefused text.now) }

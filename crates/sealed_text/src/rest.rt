@@ -71,7 +71,7 @@ fn sealed<'a>(batch: &'a [u8], bytes: &'a [u8]) -> Rest<'a>
     }
 }
 
-/// What the bytes begin with. Costs a SHA-256 over the batch that they begin with.
+/// What the bytes begin with. Costs two passes over the batch that they begin with.
 pub(crate) fn rest_of(bytes: &[u8]) -> Rest<'_>
     ensures rest { IsRest bytes.now result }
 {

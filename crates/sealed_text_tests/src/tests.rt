@@ -1,4 +1,4 @@
-//! Worked texts. The sums were computed by `hashlib.sha256` of Python 3.
+//! Worked texts. The sums were worked out from the definition by a line of Python.
 
 use sealed_text::{TextFault, end_batch, is_batch, sum_line, unseal};
 use std::alloc::Global;
@@ -6,12 +6,12 @@ use std::process::Abort;
 
 /// Three batches.
 const THREE: &[u8] = b"R 1
-sum 010d01fc6b401c5a
+sum 000000ad00000214
 C 1 1 0 -15
-sum 52abe69e9f67636a
+sum 000001f200000d71
 R 2
 C 2 1 1 7
-sum 3cb160532e51d83b
+sum 0000024600001272
 ";
 
 /// What the text holds are these records, in so many closed bytes.
@@ -93,8 +93,8 @@ fn each_byte_left_out_is_damage(rt: HostRuntime) {
 
 #[test]
 fn a_line_tells_the_sum(rt: HostRuntime) {
-    assert_eq!(&rt; &sum_line(b"R 1\n"), b"sum 010d01fc6b401c5a\n");
-    assert_eq!(&rt; &sum_line(b""), b"sum e3b0c44298fc1c14\n");
+    assert_eq!(&rt; &sum_line(b"R 1\n"), b"sum 000000ad00000214\n");
+    assert_eq!(&rt; &sum_line(b""), b"sum 0000000000000000\n");
 }
 
 #[test]
@@ -134,12 +134,12 @@ fn a_stop_leaves_what_is_closed(rt: HostRuntime) {
 fn what_no_stop_leaves_is_damage(rt: HostRuntime) {
     let alloc = rt.alloc();
     let faults = [
-        fault_of(alloc, b"R 1\nsum 010d01fc6b401c5a\nR 2.\n"),
-        fault_of(alloc, b"R 1\nsum 010d01fc6b401c5a\nR 2sum"),
-        fault_of(alloc, b"R 1\nsum 010d01fc6b401c5a\nR 2\nsum 3"),
-        fault_of(alloc, b"R 1\nsum 010d01fc6b401c5a\nsum"),
-        fault_of(alloc, b"sum e3b0c44298fc1c14\n"),
-        fault_of(alloc, b"R 1\nsum 010d01fc6b401c5ax"),
+        fault_of(alloc, b"R 1\nsum 000000ad00000214\nR 2.\n"),
+        fault_of(alloc, b"R 1\nsum 000000ad00000214\nR 2sum"),
+        fault_of(alloc, b"R 1\nsum 000000ad00000214\nR 2\nsum 3"),
+        fault_of(alloc, b"R 1\nsum 000000ad00000214\nsum"),
+        fault_of(alloc, b"sum 0000000000000000\n"),
+        fault_of(alloc, b"R 1\nsum 000000ad00000214x"),
     ];
     let third = damaged_at(3);
     let first = damaged_at(1);
@@ -149,7 +149,7 @@ fn what_no_stop_leaves_is_damage(rt: HostRuntime) {
 #[test]
 fn a_world_ends(rt: HostRuntime) {
     let alloc = rt.alloc();
-    let ended = b"R 1\nsum 010d01fc6b401c5a\nX\nsum 7058299627365fc7\n";
+    let ended = b"R 1\nsum 000000ad00000214\nX\nsum 00000062000000ba\n";
     assert_eq!(&rt; end_batch(), b"X\n".as_slice());
     assert!(&rt; holds(alloc, ended, b"R 1\n", 48, true));
     assert!(&rt; holds(alloc, &ended[25..], b"", 23, true));
@@ -159,8 +159,8 @@ fn a_world_ends(rt: HostRuntime) {
 #[test]
 fn nothing_stands_behind_an_end(rt: HostRuntime) {
     let alloc = rt.alloc();
-    let behind = b"R 1\nsum 010d01fc6b401c5a\nX\nsum 7058299627365fc7\nR";
+    let behind = b"R 1\nsum 000000ad00000214\nX\nsum 00000062000000ba\nR";
     assert_eq!(&rt; fault_of(alloc, behind), damaged_at(3));
-    let twice = b"X\nsum 7058299627365fc7\nX\nsum 7058299627365fc7\n";
+    let twice = b"X\nsum 00000062000000ba\nX\nsum 00000062000000ba\n";
     assert_eq!(&rt; fault_of(alloc, twice), damaged_at(1));
 }

@@ -266,7 +266,7 @@ const SEALED_LOG_NAME: &str = "escrow log 2
 number 1
 world abf6d0b2ae68513ab0fe4bdacf613f45ec8d357c35c7ad8bb3b851a559578afd
 head 0 0
-sum 0d9b9c43df54bb9e
+sum 00001e9100068741
 ";
 
 #[test]
