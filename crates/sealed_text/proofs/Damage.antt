@@ -1,12 +1,18 @@
 -- One byte that was changed in a closed batch, or in the line that closes it.
-use Rattle.std.proofs.Common.{append_assoc, ◌≡◌, ◌≢◌, inl, inr, ℕ, suc, zero, ◌+◌, ◌-◌, ◌<◌, ◌≤◌, true, false, List, [], ◌∷◌, ◌++◌, length, take, drop, All, slice_index, slice_set, refl, sym, ap, ◌∙◌, arith}
-use Rattle.std.specs.List.{AllPass}
+use Rattle.std.proofs.Common.{append_assoc, ◌≡◌, ◌≢◌, inl, inr, ℕ, suc, zero, ◌+◌, ◌-◌, ◌%◌, ◌^◌, Ok, ◌<◌, ◌≤◌, true, false, List, [], ◌∷◌, ◌++◌, length, take, drop, All, slice_index, slice_set, refl, sym, ap, ◌∙◌, arith}
+use Rattle.std.proofs.lemmas.Grind.{common_steps}
+use Rattle.std.specs.List.{AllPass, sum}
+use Rattle.std.specs.Int.{w32, to_be_bytes, from_be_bytes}
+use Rattle.hex.specs.Hex.{IsBytes, decode_of}
+use Rattle.hex.proofs.HexLemmas.{decode_of-encode_lower}
+use Rattle.std.proofs.lemmas.List.Sums.{sum_by-set}
+use Rattle.std.proofs.lemmas.Nat.{from_be_bytes-to_be_bytes_4}
 use Rattle.std.proofs.lemmas.Bool.{cases_lt, cases_eq}
 use Rattle.std.proofs.lemmas.List.{append-nil, append_cancel_right, length-append, length-set, take_at, set-append_left, set-append_right, set_split, get_or_append_left, get_or-append_right, get_or-set_same}
-use Rattle.std.proofs.lemmas.List.Elements.{All-head, All-tail, All-set, All-take, All-drop, All-push}
-use Rattle.sealed_text.specs.Seals.{sum_of, sum_line, sealed_batch, sealed_text, end_batch, is_batch_byte, lines_of, IsBatch, IsRecords, IsDamaged, IsDamagedAt, ChangesByte}
+use Rattle.std.proofs.lemmas.List.Elements.{All-head, All-tail, All-get_or, All-set, All-take, All-drop, All-push}
+use Rattle.sealed_text.specs.Seals.{weighted, digits_of, sum_of, sum_line, sealed_batch, sealed_text, end_batch, is_batch_byte, lines_of, IsBatch, IsRecords, IsDamaged, IsDamagedAt, ChangesByte}
 use Rattle.sealed_text.specs.Rests.{IsClear, BeginsWithS}
-use Rattle.sealed_text.proofs.Cuts.{length-sum_line, end_is_batch, end_closed, batch_clear, line_begins, closed_cut, torn_more}
+use Rattle.sealed_text.proofs.Cuts.{length-digits_of, length-sum_line, end_is_batch, end_closed, batch_clear, line_begins, closed_cut, torn_more}
 
 -- fronts of one length of the same bytes are one
 same_fronts : (p q x y : List ℕ) → length p ≡ length q → p ++ x ≡ q ++ y → p ≡ q
@@ -97,13 +103,55 @@ set_in_line b t c v (suc k) byte batch less other closed is =
     let same = behind_s b line t c v batch (record { more = _; is = refl }) lengths closed is in
     set_is (sum_line b) (suc k) byte (omega (arith, less, length-sum_line b)) other same
 
--- one byte of a batch changed leaves another sum
-abbrev HasOtherSums : List ℕ → Type 0
-HasOtherSums b = (other : List ℕ) → ChangesByte b other → sum_of other ≢ sum_of b
+-- ---- another byte, another sum
 
-set_in_batch : (b t c v : List ℕ) (k byte : ℕ) → IsBatch b → k < length b → byte ≢ slice_index b k → HasOtherSums b → IsBatch c
+-- all bytes of a number are bytes
+be_bytes : (n : ℕ) → IsBytes (to_be_bytes w32 n)
+be_bytes n zero = omega arith
+be_bytes n (suc zero) = omega arith
+be_bytes n (suc (suc zero)) = omega arith
+be_bytes n (suc (suc (suc zero))) = omega arith
+be_bytes n (suc (suc (suc (suc i)))) = omega arith
+
+-- digits tell their number, modulo 2^32
+digits_tell : (m n : ℕ) → digits_of m ≡ digits_of n → m % 2 ^ 32 ≡ n % 2 ^ 32
+digits_tell m n same =
+    let read : Ok (to_be_bytes w32 (m % 2 ^ 32)) ≡ Ok (to_be_bytes w32 (n % 2 ^ 32)) =
+    sym (decode_of-encode_lower (to_be_bytes w32 (m % 2 ^ 32)) (be_bytes (m % 2 ^ 32)))
+    ∙ ap decode_of same
+    ∙ decode_of-encode_lower (to_be_bytes w32 (n % 2 ^ 32)) (be_bytes (n % 2 ^ 32)) in
+    let bytes : to_be_bytes w32 (m % 2 ^ 32) ≡ to_be_bytes w32 (n % 2 ^ 32) = cc in
+    sym (from_be_bytes-to_be_bytes_4 (m % 2 ^ 32) (omega arith))
+    ∙ ap (from_be_bytes w32) bytes
+    ∙ from_be_bytes-to_be_bytes_4 (n % 2 ^ 32) (omega arith)
+
+-- the first eight digits are those of what the bytes add up to
+first_digits : (x y : List ℕ) → sum_of x ≡ sum_of y → digits_of (sum x) ≡ digits_of (sum y)
+unfolding sum_of
+first_digits x y same =
+    let cut : (z : List ℕ) → take 8 (digits_of (sum z) ++ digits_of (weighted z)) ≡ digits_of (sum z) =
+    λ z. take_at (digits_of (sum z)) (digits_of (weighted z)) 8 (length-digits_of (sum z)) in
+    sym (cut x) ∙ ap (take 8) same ∙ cut y
+
+-- numbers that differ by less than 256 differ modulo 2^32
+near : (m n a b : ℕ) → m + a ≡ n + b → m % 2 ^ 32 ≡ n % 2 ^ 32 → a < 256 → b < 256 → b ≡ a
+near m n a b is same small few = omega arith
+
+byte_small : (b : ℕ) → is_batch_byte b ≡ true → b < 256
+unfolding is_batch_byte
+byte_small b passes = grind (arith, common_steps)
+
+other_sum : (b : List ℕ) (k byte : ℕ) → IsBatch b → k < length b → byte < 256 → byte ≢ slice_index b k
+    → sum_of (slice_set b k byte) ≢ sum_of b
+other_sum b k byte batch less fits other same =
+    let sums : sum (slice_set b k byte) + slice_index b k ≡ sum b + byte = sum_by-set (λ x. x) b k byte 0 less in
+    let small : slice_index b k < 256 = byte_small (slice_index b k) (All-get_or (λ b. is_batch_byte b ≡ true) b k 0 less batch.letters) in
+    other (near (sum (slice_set b k byte)) (sum b) (slice_index b k) byte sums
+    (digits_tell (sum (slice_set b k byte)) (sum b) (first_digits (slice_set b k byte) b same)) small fits)
+
+set_in_batch : (b t c v : List ℕ) (k byte : ℕ) → IsBatch b → k < length b → byte < 256 → byte ≢ slice_index b k → IsBatch c
     → slice_set b k byte ++ (sum_line b ++ t) ≢ sealed_batch c ++ v
-set_in_batch b t c v k byte batch less other sums closed is =
+set_in_batch b t c v k byte batch less fits other closed is =
     elim (cases_eq byte 115) [
       | inl same ↦
           let cut : slice_set b k byte ≡ take k b ++ 115 ∷ drop (suc k) b = ap (slice_set b k) same ∙ set_split b k 115 less in
@@ -114,21 +162,19 @@ set_in_batch b t c v k byte batch less other sums closed is =
           (All-drop (λ b. is_batch_byte b ≡ true) (suc k) b batch.letters) closed whole
       | inr not ↦
           let clear : IsClear (slice_set b k byte) = All-set (λ b. b ≢ 115) b k byte not (batch_clear b batch) in
-          let changes : ChangesByte b (slice_set b k byte) =
-          record { place = k; byte = byte; within = less; other = other; after_is = refl } in
-          sums (slice_set b k byte) changes (in_batch b (slice_set b k byte) t c v clear closed is)
+          other_sum b k byte batch less fits other (in_batch b (slice_set b k byte) t c v clear closed is)
     ]
 
 -- no closed batch stands there, nor a front of one
-no_seal : (b t c v : List ℕ) (k byte : ℕ) → IsBatch b → k < length (sealed_batch b) → byte ≢ slice_index (sealed_batch b) k → HasOtherSums b
+no_seal : (b t c v : List ℕ) (k byte : ℕ) → IsBatch b → k < length (sealed_batch b) → byte < 256 → byte ≢ slice_index (sealed_batch b) k
     → IsBatch c → slice_set (sealed_batch b) k byte ++ t ≢ sealed_batch c ++ v
-no_seal b t c v k byte batch less other sums closed is =
+no_seal b t c v k byte batch less fits other closed is =
     elim (cases_lt k (length b)) [
       | inl front ↦
           let here : slice_set (sealed_batch b) k byte ++ t ≡ slice_set b k byte ++ (sum_line b ++ t) =
           ap (λ (l : List ℕ). l ++ t) (set-append_left b (sum_line b) k byte front) ∙ append_assoc (slice_set b k byte) (sum_line b) t in
           let read : slice_index (sealed_batch b) k ≡ slice_index b k = get_or_append_left b (sum_line b) 0 k front in
-          set_in_batch b t c v k byte batch front (λ e. other (e ∙ sym read)) sums closed (sym here ∙ is)
+          set_in_batch b t c v k byte batch front fits (λ e. other (e ∙ sym read)) closed (sym here ∙ is)
       | inr back ↦
           let past : length b ≤ k = omega (arith, back) in
           let here : slice_set (sealed_batch b) k byte ++ t ≡ b ++ (slice_set (sum_line b) (k - length b) byte ++ t) =
@@ -140,11 +186,11 @@ no_seal b t c v k byte batch less other sums closed is =
           set_in_line b t c v (k - length b) byte batch within (λ e. other (e ∙ sym read)) closed (sym here ∙ is)
     ]
 
-changed_damaged : (b changed rest : List ℕ) → IsBatch b → ChangesByte (sealed_batch b) changed → HasOtherSums b
+changed_damaged : (b changed rest : List ℕ) → IsBatch b → ChangesByte (sealed_batch b) changed
     → IsDamaged (changed ++ rest)
-changed_damaged b changed rest batch change sums =
+changed_damaged b changed rest batch change =
     let none : (c t v : List ℕ) → IsBatch c → changed ++ t ≢ sealed_batch c ++ v =
-    λ c t v closed is. no_seal b t c v change.place change.byte batch change.within change.other sums closed
+    λ c t v closed is. no_seal b t c v change.place change.byte batch change.within change.fits change.other closed
     (ap (λ (l : List ℕ). l ++ t) (sym change.after_is) ∙ is) in
     record {
       no_end = λ end. none end_batch rest [] end_is_batch (end_closed (changed ++ rest) end);
@@ -155,11 +201,11 @@ changed_damaged b changed rest batch change sums =
     }
 
 pub changed_byte : (batches : List (List ℕ)) (b changed rest : List ℕ) → All IsRecords batches → IsBatch b
-    → ChangesByte (sealed_batch b) changed → HasOtherSums b → IsDamagedAt (sealed_text batches ++ (changed ++ rest)) (1 + lines_of (sealed_text batches))
-changed_byte batches b changed rest all batch change sums = record {
+    → ChangesByte (sealed_batch b) changed → IsDamagedAt (sealed_text batches ++ (changed ++ rest)) (1 + lines_of (sealed_text batches))
+changed_byte batches b changed rest all batch change = record {
   batches = batches;
   rest = changed ++ rest;
   begins = record { records = all; text_is = refl };
-  damaged = changed_damaged b changed rest batch change sums;
+  damaged = changed_damaged b changed rest batch change;
   line_is = refl;
 }

@@ -121,10 +121,11 @@ pub record LeavesFront (batches : List (List ℕ)) (front : List ℕ) : Type 0 w
   pub text_is : front ≡ sealed_text (take count batches) ++ torn
   pub is_torn : IsTorn torn
 
--- The bytes were changed in one byte: at this place it was another one.
+-- The bytes were changed in one byte: at this place there is another byte now.
 pub record ChangesByte (before after : List ℕ) : Type 0 where
   pub place : ℕ
   pub byte : ℕ
   pub within : place < length before
+  pub fits : byte < 256
   pub other : byte ≢ slice_index before place
   pub after_is : after ≡ slice_set before place byte

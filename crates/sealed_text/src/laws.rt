@@ -1,7 +1,7 @@
 //! What texts of closed batches tell, as contracts of functions that do nothing.
 
-ghost use Rattle.std.specs.Prelude.{◌≡◌, ◌≢◌, ◌<◌, ◌+◌, ◌++◌, ℕ, Bool, true, false, List, All, take, length};
-ghost use Rattle.sealed_text.specs.Seals.{IsBatch, IsRecords, IsTorn, IsEnd, IsDamagedAt, sum_of, sealed_batch, sealed_text, closed_text, lines_of, LeavesFront, ChangesByte};
+ghost use Rattle.std.specs.Prelude.{◌≡◌, ◌<◌, ◌+◌, ◌++◌, ℕ, Bool, true, false, List, All, take, length};
+ghost use Rattle.sealed_text.specs.Seals.{IsBatch, IsRecords, IsTorn, IsEnd, IsDamagedAt, sealed_batch, sealed_text, closed_text, lines_of, LeavesFront, ChangesByte};
 
 /// No two lists of batches have one text, whatever a stop left behind them, or the end of the world
 /// (`batches`): so a text unseals to one list of batches, and to one rest. What a stop leaves is
@@ -25,12 +25,11 @@ pub fn a_stop_leaves_a_front()
 {}
 
 /// One byte that was changed in a closed batch, or in the line that closes it, is damage at the line
-/// at which that batch begins, whatever stands behind it; but where the batch with one byte changed
-/// has the same sum. So the reading refuses it, and cuts nothing off.
+/// at which that batch begins, whatever stands behind it. So the reading refuses it, and cuts nothing
+/// off.
 pub fn a_changed_byte_is_damage()
     ensures { (batches : List (List ℕ)) (batch changed rest : List ℕ) → All IsRecords batches
         → IsBatch batch → ChangesByte (sealed_batch batch) changed
-        → ((other : List ℕ) → ChangesByte batch other → sum_of other ≢ sum_of batch)
         → IsDamagedAt (sealed_text batches ++ (changed ++ rest))
         (1 + lines_of (sealed_text batches)) }
 {}

@@ -1,6 +1,4 @@
-use Rattle.std.proofs.Common.{◌≡◌, ◌+◌, ◌%◌, ◌^◌, ap, ◌∙◌}
-use Rattle.std.specs.List.{sum}
-use Rattle.sealed_text.specs.Seals.{weighted}
+use Rattle.std.proofs.Common.{◌^◌}
 use Rattle.sealed_text.proofs.Sums.{next-sums}
 use Rattle.sealed_text.proofs.batch.sums_of.Goals as goal
 

@@ -1,4 +1,4 @@
-use Rattle.std.proofs.Common.{◌≡◌, ◌%◌, ◌^◌, ℕ, take}
+use Rattle.std.proofs.Common.{◌≡◌, ◌%◌, ◌^◌, take}
 use Rattle.std.specs.List.{sum}
 use Rattle.sealed_text.specs.Seals.{weighted}
 use Rattle.sealed_text.proofs.batch.sums_of.Given as goal
