@@ -1,13 +1,13 @@
 -- What an opening leaves of the closed batches of a file: all of them (this project).
-use Rattle.std.proofs.Common.{append_assoc, ◌≡◌, ◌⊎◌, inl, inr, Bool, true, false, ℕ, List, [], ◌∷◌, ◌++◌, length, take, All, Option, None, Some, Result, Ok, Err, OnOk, OnErr, refl, sym, ap, subst, ◌∙◌, arith}
+use Rattle.std.proofs.Common.{append_assoc, ◌≡◌, ◌⊎◌, inl, inr, false, ℕ, List, [], ◌∷◌, ◌++◌, length, take, All, Option, None, Some, Result, Ok, Err, OnOk, OnErr, refl, sym, ap, subst, ◌∙◌}
 use Rattle.std.proofs.lemmas.List.{append_cancel_left, take_at}
 use Rattle.std.proofs.lemmas.List.Elements.{All-head, All-tail}
-use Rattle.file_medium.specs.Files.{CutsTo, cut_known}
+use Rattle.file_medium.specs.Files.{cut_known}
 use Rattle.file_medium.specs.Copies.{IsCopyOf}
-use Rattle.sealed_text.specs.Seals.{sum_line, sealed_batch, sealed_text, closed_text, IsBatch, IsRecords, IsTorn, IsEnd, BeginsWith, Unseals}
+use Rattle.sealed_text.specs.Seals.{sum_line, sealed_batch, sealed_text, closed_text, IsBatch, IsRecords, IsTorn, IsEnd, Unseals}
 use Rattle.sealed_text.specs.declared.reading.Unsealed.{Unsealed}
 use Rattle.sealed_text.proofs.Cuts.{batch_clear, line_begins, closed_cut, closed_not_torn}
-use Rattle.sealed_log.specs.Sealed.{KeepsClosed, KeepsAll, LosesNothing}
+use Rattle.sealed_log.specs.Sealed.{KeepsAll, LosesNothing}
 
 same_first : (b c x y : List ℕ) → IsBatch b → IsBatch c → sealed_batch b ++ x ≡ sealed_batch c ++ y → (b ≡ c) × (x ≡ y)
 same_first b c x y batch other is =
