@@ -170,7 +170,7 @@ fn refusals(log: &mut SealedLog<MemoryFile>) -> [bool; 9] {
     [
         log.write(b"") == Err(FileFailed),
         log.write(b"R 1") == Err(FileFailed),
-        log.write(b"r 1\n") == Err(FileFailed),
+        log.write(b"s 1\n") == Err(FileFailed),
         log.write(b"R\t1\n") == Err(FileFailed),
         log.write(b"R 1\n") == Ok(4),
         log.write(b"1\nR") == Err(FileFailed),
