@@ -4,7 +4,8 @@ use Rattle.file_medium.specs.declared.medium.Durability.{Durability}
 use Rattle.file_medium.specs.declared.medium.Durability.TheVariants.{EachAppend, Caller}
 
 -- The medium as its callers see it: the bytes of the copy; how many can be added without memory; how many calls failed;
--- whether a sync has; when an append is safe; and the bytes that the file holds, and those that are safe, where they are known.
+-- whether a sync has; when an append is safe; and the bytes that the file holds, those that are safe, and the fewest that a cut of
+-- it has left, where they are known.
 pub record FileCopy : Type 0 where
   pub bytes : List ℕ
   pub room : ℕ
@@ -13,6 +14,7 @@ pub record FileCopy : Type 0 where
   pub durability : Durability
   pub file : Option (List ℕ)
   pub safe : Option (List ℕ)
+  pub least : Option ℕ
 
 -- The copy is these bytes, where they are known.
 abbrev pub IsCopyOf : Option (List ℕ) → List ℕ → Type 0
@@ -52,6 +54,10 @@ IsSafeAtOnce old new = old.durability ≡ EachAppend → old.failures < 2 ^ 64 -
 -- After a sync that failed a call fails, unless the count of failures can't rise any more.
 abbrev pub MayNotAnswer : {T E : Type 0} → FileCopy → Result T E → Type 0
 MayNotAnswer old result = old.lost ≡ true → old.failures < 2 ^ 64 - 1 → IsErr result
+
+-- No sync failed in a call that was answered, unless the count of failures could not rise any more: where none had, none has.
+abbrev pub StaysSound : FileCopy → FileCopy → Type 0
+StaysSound old new = old.lost ≡ false → old.failures < 2 ^ 64 - 1 → new.lost ≡ false
 
 -- The file holds these bytes behind the first so many, and no others, where that is known.
 abbrev pub EndsAs : Option (List ℕ) → ℕ → List ℕ → Type 0

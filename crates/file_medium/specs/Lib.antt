@@ -1,3 +1,4 @@
 pub mod Files
+pub mod Moments
 pub mod Copies
 pub mod HeldFile

@@ -28,6 +28,7 @@ pub fn write_front<F: LogFile>(file: &mut F, piece: &[u8]) -> usize
     ensures bound { result ≤ length piece.now }
     ensures bytes { F.bytes file.new ≡ append_known (F.bytes file.old) (take result piece.now) }
     ensures safe { F.safe file.new ≡ F.safe file.old }
+    ensures least { F.least file.new ≡ F.least file.old }
 {
     let mut written = 0;
     while written < piece.len() {
@@ -47,6 +48,7 @@ pub(crate) fn holds<F: LogFile>(file: &mut F, piece: &mut [u8], from: u64, bytes
     ensures ends { result ≡ true → EndsAs (F.bytes file.old) from bytes.now }
     ensures bytes { F.bytes file.new ≡ F.bytes file.old }
     ensures safe { F.safe file.new ≡ F.safe file.old }
+    ensures least { F.least file.new ≡ F.least file.old }
 {
     let mut seen = 0;
     while seen < bytes.len() {
@@ -87,6 +89,7 @@ fn read_next<F: LogFile>(
     ensures read { IfOk result (ReadsOn (F.bytes file.new) held.new.items) }
     ensures bytes { F.bytes file.new ≡ F.bytes file.old }
     ensures safe { F.safe file.new ≡ F.safe file.old }
+    ensures least { F.least file.new ≡ F.least file.old }
 {
     let at = held.as_slice().len();
     match file.read_at(at as u64, piece) {
@@ -105,6 +108,7 @@ pub fn read_whole<F: LogFile>(alloc: Global, file: &mut F) -> Result<Vec<u8>, Me
     ensures copy { IfOk result (λ held. IsCopyOf (F.bytes file.new) held.items) }
     ensures bytes { F.bytes file.new ≡ F.bytes file.old }
     ensures safe { F.safe file.new ≡ F.safe file.old }
+    ensures least { F.least file.new ≡ F.least file.old }
 {
     let mut held = Vec::new(alloc);
     let mut piece = new_piece(alloc)?;

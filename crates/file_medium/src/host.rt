@@ -21,9 +21,9 @@ pub struct FileFault {
 /// call that failed, for who tells people.
 ///
 /// This is the one place in which it is read, and not proved, that a file keeps the law of
-/// `LogFile`: no contract can see what a file of the system holds, so `bytes` and `safe` are None,
-/// of which each clause holds whatever the body. The bodies of `read_at`, `write`, `cut` and `sync`
-/// make one call of the system each, at the file that was opened, and hand its answer on.
+/// `LogFile`: no contract can see what a file of the system holds, so `bytes`, `safe` and `least`
+/// are None, of which each clause holds whatever the body. The bodies of `read_at`, `write`, `cut`
+/// and `sync` make one call of the system each, at the file that was opened, and hand its answer on.
 #[derive(Drop)]
 pub struct HostFile {
     file: File,
@@ -47,6 +47,8 @@ impl LogFile for HostFile {
     ghost bytes = { λ f. None };
 
     ghost safe = { λ f. None };
+
+    ghost least = { λ f. None };
 
     fn read_at(&mut self, at: u64, buffer: &mut [u8]) -> Result<usize, FileFailed> {
         match self.file.read_at(buffer, at) {

@@ -1,8 +1,9 @@
 //! The medium over a file.
 
-ghost use Rattle.std.specs.Prelude.{◌≡◌, ◌<◌, ◌≤◌, ◌-◌, ◌+◌, ◌^◌, ◌++◌, ℕ, None, false, true, length, take, IfOk, OnOk, OnErr};
+ghost use Rattle.std.specs.Prelude.{◌≡◌, ◌<◌, ◌≤◌, ◌-◌, ◌+◌, ◌^◌, ◌++◌, ℕ, None, false, true, length, take, vec_len, IfOk, IfErr, OnOk, OnErr};
 ghost use Rattle.kept_records.specs.Medium.{Counts, CountsRead, IsCutShort, last_bytes};
-ghost use Rattle.file_medium.specs.Copies.{IsCopyOf, IsSafeAtOnce, IsSafeCopy, IsTrueCopy, MayNotAnswer};
+ghost use Rattle.file_medium.specs.Copies.{IsCopyOf, IsSafeAtOnce, IsSafeCopy, IsTrueCopy, MayNotAnswer, StaysSound};
+ghost use Rattle.file_medium.specs.Files.{KeepsFront, SparesFront, cut_known};
 
 use crate::copying::{holds, new_piece, read_whole, write_front};
 use crate::log_file::{FileFailed, LogFile};
@@ -30,13 +31,16 @@ pub enum Durability {
 /// which a file that keeps its law never shows, the device has failed. A write that fails, or takes
 /// only a part of the piece, is the medium's fault of an append: the copy has what the file took.
 ///
+/// No call cuts the file but `cut`, and that only behind the bytes that it is to keep: whichever call
+/// fails, and whether a sync has failed before or not, what was safe stays so, in front of such a cut.
+///
 /// No mishap is foretold. A count of failures that is at the greatest `u64`, which no run reaches,
 /// can't rise: from there on no call of `Medium` fails, and what is changed is the copy alone, as
 /// if a sync had failed.
 ///
 /// Contracts see the bytes, how many can be added without memory, the count of failures, whether a
-/// sync has failed, the durability, and what the file holds and what of it is safe, where it tells
-/// so. It costs memory for the bytes, and 64 KiB to look at the file. An append costs one write and
+/// sync has failed, the durability, and what the file holds, what of it is safe, and the fewest bytes
+/// that a cut of it has left, where it tells so. It costs memory for the bytes, and 64 KiB to look at the file. An append costs one write and
 /// its copy, where the file takes all at once, a cut one call of the file, and one sync each, by
 /// the durability. `read_all` and `read_end` read as many bytes of the file as they answer.
 /// Source: this project.
@@ -65,6 +69,7 @@ impl<F: LogFile> Model for FileMedium<F> {
       durability = m.durability;
       file = F.bytes m.file;
       safe = F.safe m.file;
+      least = F.least m.file;
     } };
 
     ghost invariant = { λ m. IsSoundCopy m.durability m.lost (F.bytes m.file) (F.safe m.file)
@@ -76,6 +81,8 @@ fn make_safe<F: LogFile>(file: &mut F, durability: Durability) -> bool
     ensures bytes { result ≡ true → F.bytes file.new ≡ F.bytes file.old }
     ensures safe { result ≡ true → durability ≡ Durability.EachAppend
         → F.safe file.new ≡ F.bytes file.new }
+    ensures kept { KeepsFront (F.safe file.old) (F.safe file.new) }
+    ensures least { F.least file.new ≡ F.least file.old }
 {
     match durability {
         Durability::EachAppend => file.sync().is_ok(),
@@ -83,37 +90,65 @@ fn make_safe<F: LogFile>(file: &mut F, durability: Durability) -> bool
     }
 }
 
-impl<F: LogFile + Drop> FileMedium<F> {
-    /// A medium that holds what the file holds, which is synced, so that all of it is safe, and
-    /// read whole. `Device`: the sync or a read failed. `NoMemory`: memory is wanting. Either lets
-    /// go of the file. Costs memory for the bytes.
-    pub fn new(alloc: Global, file: F, durability: Durability) -> Result<FileMedium<F>, MediumFault>
-        ensures copy { IfOk result (λ medium. IsCopyOf (F.bytes file) medium.bytes) }
-        ensures file { IfOk result (λ medium. medium.file ≡ F.bytes file) }
-        ensures safe { IfOk result (λ medium. medium.safe ≡ F.bytes file) }
-        ensures sound { IfOk result (λ medium. medium.lost ≡ false) }
-        ensures failures { IfOk result (λ medium. medium.failures ≡ 0) }
-        ensures durability { IfOk result (λ medium. medium.durability ≡ durability) }
-    {
-        let mut file = file;
-        match file.sync() {
-            Ok(()) => {}
-            Err(FileFailed) => return Err(MediumFault::Device),
-        }
-        let held = read_whole(alloc, &mut file)?;
-        let piece = new_piece(alloc)?;
-        Ok(FileMedium {
-            file,
-            held,
-            failures: 0,
-            lost: false,
-            durability,
-            piece,
-        })
+/// What a file holds, and memory for a piece of it.
+struct Copied {
+    held: Vec<u8>,
+    piece: Vec<u8>,
+}
+
+/// Syncs a file and reads it whole.
+fn copy_synced<F: LogFile>(alloc: Global, file: &mut F) -> Result<Copied, MediumFault>
+    ensures copy { IfOk result (λ copied. IsCopyOf (F.bytes file.old) copied.held.items) }
+    ensures piece { IfOk result (λ copied. 0 < vec_len copied.piece) }
+    ensures bytes { OnOk result (F.bytes file.new ≡ F.bytes file.old) }
+    ensures safe { OnOk result (F.safe file.new ≡ F.bytes file.old) }
+    ensures kept { KeepsFront (F.safe file.old) (F.safe file.new) }
+    ensures least { F.least file.new ≡ F.least file.old }
+{
+    match file.sync() {
+        Ok(()) => {}
+        Err(FileFailed) => return Err(MediumFault::Device),
     }
+    let held = read_whole(alloc, file)?;
+    let piece = new_piece(alloc)?;
+    Ok(Copied { held, piece })
 }
 
 impl<F: LogFile> FileMedium<F> {
+    /// A medium that holds what the file holds, which is synced, so that all of it is safe, and
+    /// read whole. `Device`: the sync or a read failed. `NoMemory`: memory is wanting. With either
+    /// the file is handed back: it wasn't cut, and what was safe still is. Costs memory for the bytes.
+    pub fn new(
+        alloc: Global,
+        file: F,
+        durability: Durability,
+    ) -> Result<FileMedium<F>, (MediumFault, F)>
+        ensures copy { IfOk result (λ medium. IsCopyOf (F.bytes file) medium.bytes) }
+        ensures file { IfOk result (λ medium. medium.file ≡ F.bytes file) }
+        ensures safe { IfOk result (λ medium. medium.safe ≡ F.bytes file) }
+        ensures kept { IfOk result (λ medium. KeepsFront (F.safe file) medium.safe) }
+        ensures least { IfOk result (λ medium. medium.least ≡ F.least file) }
+        ensures sound { IfOk result (λ medium. medium.lost ≡ false) }
+        ensures failures { IfOk result (λ medium. medium.failures ≡ 0) }
+        ensures durability { IfOk result (λ medium. medium.durability ≡ durability) }
+        ensures handed_back { IfErr result (λ refused. KeepsFront (F.safe file)
+            (F.safe refused.1)) }
+        ensures not_cut { IfErr result (λ refused. F.least refused.1 ≡ F.least file) }
+    {
+        let mut file = file;
+        match copy_synced(alloc, &mut file) {
+            Ok(Copied { held, piece }) => Ok(FileMedium {
+                file,
+                held,
+                failures: 0,
+                lost: false,
+                durability,
+                piece,
+            }),
+            Err(fault) => Err((fault, file)),
+        }
+    }
+
     /// Makes all that it holds safe from a stop of the machine, by one sync of the file. `Device`:
     /// the sync failed, or one did before. Then what was safe still is, and each later call fails.
     /// Bytes, room and the count of failures stay in either case: that count is of the calls of
@@ -124,6 +159,7 @@ impl<F: LogFile> FileMedium<F> {
         ensures sound { OnOk result (self.old.lost ≡ false) }
         ensures err { OnErr result
             (self.new ≡ record self.old { lost = true; file = self.new.file }) }
+        ensures kept { KeepsFront self.old.safe self.new.safe }
     {
         if self.lost {
             return Err(Device);
@@ -151,6 +187,7 @@ impl<F: LogFile> FileMedium<F> {
     pub fn file(&self) -> &F
         ensures bytes { F.bytes result.now ≡ self.now.file }
         ensures safe { F.safe result.now ≡ self.now.safe }
+        ensures least { F.least result.now ≡ self.now.least }
     {
         &self.file
     }
@@ -206,7 +243,10 @@ impl<F: LogFile> FileMedium<F> {
         ensures failures { self.new.failures ≡ self.old.failures }
         ensures lost { self.old.lost ≡ true → result ≡ false }
         ensures sticky { self.old.lost ≡ true → self.new.lost ≡ true }
+        ensures sound { result ≡ true → self.new.lost ≡ false }
         ensures durability { self.new.durability ≡ self.old.durability }
+        ensures kept { KeepsFront self.old.safe self.new.safe }
+        ensures least { self.new.least ≡ self.old.least }
     {
         if self.lost {
             return false;
@@ -231,7 +271,10 @@ impl<F: LogFile> FileMedium<F> {
         ensures failures { self.new.failures ≡ self.old.failures }
         ensures lost { self.old.lost ≡ true → result ≡ false }
         ensures sticky { self.old.lost ≡ true → self.new.lost ≡ true }
+        ensures sound { result ≡ true → self.new.lost ≡ false }
         ensures durability { self.new.durability ≡ self.old.durability }
+        ensures kept { KeepsFront (cut_known kept self.old.safe) self.new.safe }
+        ensures least { SparesFront kept self.old.least self.new.least }
     {
         if self.lost {
             return false;
@@ -257,6 +300,8 @@ impl<F: LogFile> FileMedium<F> {
         ensures lost { self.new.lost ≡ true }
         ensures durability { self.new.durability ≡ self.old.durability }
         ensures failures { self.new.failures ≡ self.old.failures }
+        ensures safe { self.new.safe ≡ self.old.safe }
+        ensures least { self.new.least ≡ self.old.least }
     {
         self.lost = true;
         self.held.extend_from_slice(piece).unwrap();
@@ -321,7 +366,10 @@ impl<F: LogFile> Medium for FileMedium<F> {
         ensures failed { Counts result self.old.failures self.new.failures }
         ensures lost { MayNotAnswer self.old result }
         ensures sticky { self.old.lost ≡ true → self.new.lost ≡ true }
+        ensures sound { OnOk result (StaysSound self.old self.new) }
         ensures durability { self.new.durability ≡ self.old.durability }
+        ensures kept { KeepsFront self.old.safe self.new.safe }
+        ensures least { self.new.least ≡ self.old.least }
     {
         if !self.may_fail() {
             self.pretend(piece);
@@ -343,18 +391,20 @@ impl<F: LogFile> Medium for FileMedium<F> {
         ensures failed { Counts result self.old.failures self.new.failures }
         ensures lost { MayNotAnswer self.old result }
         ensures sticky { self.old.lost ≡ true → self.new.lost ≡ true }
+        ensures sound { OnOk result (StaysSound self.old self.new) }
         ensures durability { self.new.durability ≡ self.old.durability }
+        ensures kept { KeepsFront (cut_known kept self.old.safe) self.new.safe }
+        ensures least { SparesFront kept self.old.least self.new.least }
     {
         if !self.may_fail() {
             self.lost = true;
             self.held.truncate(kept);
             return Ok(());
         }
-        if self.cut_both(kept) {
-            Ok(())
-        } else {
-            Err(self.fail())
+        if !self.cut_both(kept) {
+            return Err(self.fail());
         }
+        Ok(())
     }
 
     fn failures(&self) -> u64 {

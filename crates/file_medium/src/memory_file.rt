@@ -1,6 +1,6 @@
 //! A file in memory that tells its bytes, and fails as it is told.
 
-ghost use Rattle.std.specs.Prelude.{◌≡◌, [], None, Some, take};
+ghost use Rattle.std.specs.Prelude.{◌≡◌, [], None, Some, take, length};
 
 use crate::log_file::{FileFailed, LogFile};
 use std::alloc::Global;
@@ -30,12 +30,16 @@ pub struct MemoryFile {
     alloc: Global,
     held: Vec<u8>,
     safe: Vec<u8>,
+    // The fewest bytes that a cut has left.
+    least: usize,
     at_once: usize,
     capacity: usize,
     mishap: Option<FileMishap>,
 }
 
 impl Model for MemoryFile {
+    ghost use Rattle.std.specs.Prelude.{Some};
+    ghost use Rattle.file_medium.specs.Copies.{IsFrontOf};
     ghost use Rattle.file_medium.specs.HeldFile.{HeldFile};
 
     ghost Value = { HeldFile };
@@ -43,10 +47,13 @@ impl Model for MemoryFile {
     ghost view = { λ f. record {
       bytes = f.held.items;
       safe = f.safe.items;
+      least = f.least;
       at_once = f.at_once;
       capacity = f.capacity;
       mishap = f.mishap;
     } };
+
+    ghost invariant = { λ f. IsFrontOf (Some f.held.items) f.safe.items };
 }
 
 impl MemoryFile {
@@ -55,12 +62,14 @@ impl MemoryFile {
     pub fn new(alloc: Global, held: Vec<u8>) -> MemoryFile
         ensures bytes { result.bytes ≡ held.items }
         ensures safe { result.safe ≡ [] }
+        ensures least { result.least ≡ length held.items }
         ensures at_once { result.at_once ≡ usize.MAX }
         ensures capacity { result.capacity ≡ usize.MAX }
         ensures mishap { result.mishap ≡ None }
     {
         MemoryFile {
             alloc,
+            least: held.len(),
             held,
             safe: Vec::new(alloc),
             at_once: usize::MAX,
@@ -98,6 +107,14 @@ impl MemoryFile {
         self.held.as_slice()
     }
 
+    /// The fewest bytes that a cut has left, or as many as it began with where those are fewer.
+    /// Costs no memory.
+    pub fn least(&self) -> usize
+        ensures value { result ≡ self.now.least }
+    {
+        self.least
+    }
+
     /// The bytes that a stop of the machine leaves. Costs no memory.
     pub fn safe(&self) -> &[u8]
         ensures all { result.now ≡ self.now.safe }
@@ -124,6 +141,8 @@ impl LogFile for MemoryFile {
     ghost bytes = { λ f. Some f.bytes };
 
     ghost safe = { λ f. Some f.safe };
+
+    ghost least = { λ f. Some f.least };
 
     fn read_at(&mut self, at: u64, buffer: &mut [u8]) -> Result<usize, FileFailed> {
         if strikes(&mut self.mishap, FileCall::Read) {
@@ -156,6 +175,7 @@ impl LogFile for MemoryFile {
         }
         self.held.truncate(kept as usize);
         self.safe.truncate(kept as usize);
+        self.least = self.least.min(kept as usize);
         Ok(())
     }
 

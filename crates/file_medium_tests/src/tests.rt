@@ -1,5 +1,6 @@
 //! Each expected answer is worked out by hand from the definitions.
 
+mod faults;
 mod host;
 mod sites;
 mod turns;
@@ -21,7 +22,9 @@ fn medium_over<F: LogFile + Drop>(
     file: F,
     durability: Durability,
 ) -> FileMedium<F> {
-    FileMedium::new(alloc, file, durability).expect(rt, "a medium")
+    FileMedium::new(alloc, file, durability)
+        .ok()
+        .expect(rt, "a medium")
 }
 
 /// Adds a piece, or None where memory was refused.

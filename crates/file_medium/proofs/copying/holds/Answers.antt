@@ -1,4 +1,4 @@
-use Rattle.std.proofs.Common.{◌≡◌, ◌+◌, ◌-◌, take, drop, sym, subst, ap, ◌∙◌, arith}
+use Rattle.std.proofs.Common.{◌≡◌, ◌+◌, ◌-◌, take, drop, subst, ap, ◌∙◌, arith}
 use Rattle.file_medium.specs.Files.{ReadsAt}
 use Rattle.file_medium.proofs.Known.{seen-more, same_bytes}
 use Rattle.file_medium.proofs.copying.holds.Goals as goal
@@ -20,4 +20,5 @@ loop-seen-preserved g c =
       same = seen-more (g.F.LogFile.bytes c.args.file.now) from seen n held buffer before.same reads same;
       bytes = c.in-Ok.ensures.bytes ∙ before.bytes;
       safe = c.in-Ok.ensures.safe ∙ before.safe;
+      least = c.in-Ok.ensures.least ∙ before.least;
     }

@@ -9,5 +9,6 @@ invariant-loop g l = record {
   front : IsFrontOf (g.F.LogFile.bytes l.file) l.held.items;
   bytes : g.F.LogFile.bytes l.file ≡ g.F.LogFile.bytes l.initial.file;
   safe : g.F.LogFile.safe l.file ≡ g.F.LogFile.safe l.initial.file;
+  least : g.F.LogFile.least l.file ≡ g.F.LogFile.least l.initial.file;
   some : 0 < vec_len l.piece;
 }

@@ -21,4 +21,5 @@ loop-written-preserved g c =
           ∙ append_known-append known (take done xs) (take n (take (length xs - done) (drop done xs)))
           ∙ ap (append_known known) joined;
       safe = c.in-Ok.ensures.safe ∙ before.safe;
+      least = c.in-Ok.ensures.least ∙ before.least;
     }

@@ -8,6 +8,7 @@ invariant-loop-written g l = record {
   within : l.written ≤ length l.piece;
   bytes : g.F.LogFile.bytes l.file ≡ append_known (g.F.LogFile.bytes l.initial.file) (take l.written l.piece);
   safe : g.F.LogFile.safe l.file ≡ g.F.LogFile.safe l.initial.file;
+  least : g.F.LogFile.least l.file ≡ g.F.LogFile.least l.initial.file;
 }
 
 abbrev pub decreases-loop-written : goal.decreases-loop-written
