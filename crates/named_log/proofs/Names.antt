@@ -1,12 +1,14 @@
 -- What becomes of the bytes behind a name, and of those that were compared with it (this project).
-use Rattle.std.proofs.Common.{◌≡◌, ◌≢◌, ◌≤◌, ◌<◌, ◌+◌, ◌-◌, ℕ, List, ◌++◌, length, take, drop, Bool, true, false, min, inl, inr, Option, None, Some, Result, Ok, Err, refl, sym, ap, subst, ◌∙◌, arith}
-use Rattle.std.proofs.lemmas.List.{drop-take, length-take-le, take_all}
+use Rattle.std.proofs.Common.{◌≡◌, ◌≢◌, ◌≤◌, ◌<◌, ◌+◌, ◌-◌, ℕ, zero, suc, List, [], ◌∷◌, ◌++◌, length, take, drop, Bool, true, false, min, inl, inr, Option, None, Some, Result, Ok, Err, refl, sym, ap, subst, ◌∙◌, arith}
+use Rattle.std.proofs.lemmas.List.{drop-take, length-take, length-take-le, take_all}
 use Rattle.std.specs.Str.{bytes_eq}
 use Rattle.std.proofs.lemmas.Slice.Eq.{bytes_eq-Decides}
 use Rattle.std.proofs.lemmas.Bool.{cases_Bool}
 use lib.Seq.{take-add, take-take}
-use Rattle.file_medium.specs.Files.{CutsTo, ReadsAt}
-use Rattle.named_log.specs.Names.{behind, HasMet, StartsAs}
+use Rattle.std.specs.Prelude.{option_map}
+use Rattle.std.specs.Io.KnownBytes.{Keeps}
+use Rattle.file_medium.specs.Files.{AreThere, CutsTo, KeepsFront, LowersTo, ReadsAt, cut_known}
+use Rattle.named_log.specs.Names.{behind, count_behind, BeginsWith, HasMet, StartsAs}
 
 -- A cut of the file is one of the log behind the name.
 pub cut-behind : {T E : Type 0} (name kept place : ℕ) (old new : Option (List ℕ)) (result : Result T E) → place ≡ name + kept
@@ -15,6 +17,50 @@ cut-behind name kept place old new (Err e) at cuts = ap (behind name) cuts
 cut-behind name kept place None new (Ok t) at cuts = ap (behind name) cuts
 cut-behind name kept place (Some xs) new (Ok t) at cuts =
     ap (behind name) cuts ∙ ap (λ k. Some (drop name (take k xs))) at ∙ ap Some (drop-take name kept xs)
+
+-- And it leaves as many bytes behind the name.
+pub least-behind : {T E : Type 0} (name kept place : ℕ) (old new : Option ℕ) (result : Result T E) → place ≡ name + kept
+    → LowersTo place old new result → LowersTo kept (count_behind name old) (count_behind name new) result
+least-behind name kept place old new (Err e) at lowers = ap (count_behind name) lowers
+least-behind name kept place None new (Ok t) at lowers = ap (count_behind name) lowers
+least-behind name kept place (Some least) new (Ok t) at lowers =
+    let same : min place least - name ≡ min kept (least - name) = omega (arith, at) in
+    ap (count_behind name) lowers ∙ ap Some same
+
+-- What is a front of the file's bytes is one behind the name too.
+front-drop : (n : ℕ) (xs ys : List ℕ) → xs ≡ take (length xs) ys → drop n xs ≡ take (length (drop n xs)) (drop n ys)
+front-drop zero xs ys keeps = keeps
+front-drop (suc n) [] ys keeps = refl
+front-drop (suc n) (x ∷ xs) [] keeps = absurd cc
+front-drop (suc n) (x ∷ xs) (y ∷ ys) keeps = front-drop n xs ys (ap (drop 1) keeps)
+
+pub keeps-behind : (name : ℕ) (old new : Option (List ℕ)) → KeepsFront old new → KeepsFront (behind name old) (behind name new)
+keeps-behind name None new keeps = tt
+keeps-behind name (Some xs) None keeps = keeps
+keeps-behind name (Some xs) (Some ys) keeps = front-drop name xs ys keeps
+
+-- The name stays where the log behind it is cut, and where what was safe still is.
+pub name-cut : {T E : Type 0} (name kept place : ℕ) (old new : Option (List ℕ)) (result : Result T E) → place ≡ name + kept
+    → CutsTo place old new result → cut_known name new ≡ cut_known name old
+name-cut name kept place old new (Err e) at cuts = ap (cut_known name) cuts
+name-cut name kept place None new (Ok t) at cuts = ap (cut_known name) cuts
+name-cut name kept place (Some xs) new (Ok t) at cuts = ap (cut_known name) cuts ∙ ap Some (take-take name place xs (omega (arith, at)))
+
+pub name-kept : (name : ℕ) (old new : Option (List ℕ)) → AreThere name old → KeepsFront old new
+    → Keeps (cut_known name old) (cut_known name new)
+name-kept name None new there keeps = tt
+name-kept name (Some xs) None there keeps = keeps
+name-kept name (Some xs) (Some ys) there keeps = sym (ap (take name) keeps ∙ take-take name (length xs) ys there)
+
+-- It is the one that the file begins with.
+pub name-begins : (known : Option (List ℕ)) (name : List ℕ) → BeginsWith known name
+    → cut_known (length name) known ≡ option_map (λ _. name) known
+name-begins None name begins = refl
+name-begins (Some xs) name begins = ap Some begins
+
+pub there-begins : (known : Option (List ℕ)) (name : List ℕ) → BeginsWith known name → AreThere (length name) known
+there-begins None name begins = tt
+there-begins (Some xs) name begins = omega (arith, ap (length {A = ℕ}) begins, length-take (length name) xs)
 
 -- Bytes that differ are told to, and those that are the same are told so.
 differ : (xs ys : List ℕ) → xs ≢ ys → false ≡ bytes_eq xs ys

@@ -1,17 +1,25 @@
 -- A file that begins with a name, and the log behind it (this project).
-use Rattle.std.specs.Prelude.{◌≡◌, ◌≢◌, ℕ, List, length, take, drop, ⊤, Bool, true, false, Option, None, Some, option_map, bytes_eq}
+use Rattle.std.specs.Prelude.{◌≡◌, ◌≢◌, ℕ, List, length, take, drop, ⊤, Bool, true, false, Option, None, Some, option_map, bytes_eq, ◌-◌}
 use Rattle.file_medium.specs.Files.{AreThere}
 
 -- The log behind a name as its callers see it: the bytes behind the name, those of them that are safe, each where it is
--- known, and whether a sync has failed.
+-- known; the fewest of them that a cut has left, where that is; whether a sync has failed; how many bytes the name has; and the
+-- name, as it stands safe in front of them, where that is known.
 pub record LogBehind : Type 0 where
   pub bytes : Option (List ℕ)
   pub safe : Option (List ℕ)
+  pub least : Option ℕ
   pub lost : Bool
+  pub name_size : ℕ
+  pub name : Option (List ℕ)
 
 -- What stands behind the first so many of the known bytes.
 abbrev pub behind : ℕ → Option (List ℕ) → Option (List ℕ)
 behind name known = option_map (drop name) known
+
+-- Of so many known bytes, how many stand behind the first ones.
+abbrev pub count_behind : ℕ → Option ℕ → Option ℕ
+count_behind name known = option_map (λ count. count - name) known
 
 -- What holds of every named log: a name's length of bytes is safe, and is there unless a sync has failed.
 pub record HasName (name : ℕ) (lost : Bool) (bytes safe : Option (List ℕ)) : Type 0 where
@@ -33,12 +41,14 @@ abbrev pub IsNot : Option (List ℕ) → List ℕ → Type 0
 IsNot None name = ⊤
 IsNot (Some xs) name = take (length name) xs ≢ name
 
--- The file begins with the name, and the log is what stands behind it, all of it safe.
+-- The file begins with the name, which is safe, and the log is what stands behind it, all of it safe.
 pub record Opens (file : Option (List ℕ)) (name : List ℕ) (log : LogBehind) : Type 0 where
   pub own : BeginsWith file name
   pub bytes : log.bytes ≡ behind (length name) file
   pub safe : log.safe ≡ behind (length name) file
   pub sound : log.lost ≡ false
+  pub size : log.name_size ≡ length name
+  pub name_is : log.name ≡ option_map (λ _. name) file
 
 -- The first so many of the known bytes are those of the name.
 abbrev pub HasMet : Option (List ℕ) → ℕ → List ℕ → Type 0

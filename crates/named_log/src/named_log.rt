@@ -1,7 +1,10 @@
 //! The log behind a name.
 
-ghost use Rattle.std.specs.Prelude.{◌≡◌, ◌≢◌, false, length, IfOk, IfErr};
-ghost use Rattle.named_log.specs.Names.{IsNot, Opens};
+ghost use Rattle.std.specs.Prelude.{◌≡◌, ◌≢◌, false, true, length, IfOk, IfErr, IsErr, OnOk, OnErr};
+ghost use Rattle.std.specs.Io.{ReadsAtMost, WritesAtMost};
+ghost use Rattle.std.specs.Io.KnownBytes.{Keeps};
+ghost use Rattle.file_medium.specs.Files.{AddsTo, AreThere, CutsTo, KeepsFront, LowersTo, ReadsAt};
+ghost use Rattle.named_log.specs.Names.{BeginsWith, IsNot, Opens, behind, count_behind};
 ghost use Rattle.named_log.specs.declared.named_log.NameFault.TheVariants.{Device};
 
 use crate::naming::starts_with;
@@ -34,8 +37,9 @@ impl From<FileFailed> for NameFault {
 /// A sync that failed is never forgotten: nothing is known of the file's bytes then, so each later
 /// write, cut and sync fails.
 ///
-/// Contracts see the bytes behind the name and those of them that are safe, where they are known, and
-/// whether a sync has failed. A call costs one of the file, and no memory. Source: this project.
+/// Contracts see the bytes behind the name, those of them that are safe, and the fewest that a cut has
+/// left, where they are known; whether a sync has failed; and the name, as it stands safe in front of
+/// them. A call costs one of the file, and no memory. Source: this project.
 #[derive(Drop)]
 pub struct NamedLog<F: LogFile> {
     file: F,
@@ -45,38 +49,70 @@ pub struct NamedLog<F: LogFile> {
 }
 
 impl<F: LogFile> Model for NamedLog<F> {
-    ghost use Rattle.named_log.specs.Names.{LogBehind, behind, HasName};
+    ghost use Rattle.named_log.specs.Names.{LogBehind, behind, count_behind, HasName};
+    ghost use Rattle.file_medium.specs.Files.{cut_known};
 
     ghost Value = { LogBehind };
 
     ghost view = { λ l. record {
       bytes = behind l.name (F.bytes l.file);
       safe = behind l.name (F.safe l.file);
+      least = count_behind l.name (F.least l.file);
       lost = l.lost;
+      name_size = l.name;
+      name = cut_known l.name (F.safe l.file);
     } };
 
     ghost invariant = { λ l. HasName l.name l.lost (F.bytes l.file) (F.safe l.file) };
 }
 
-impl<F: LogFile + Drop> NamedLog<F> {
+/// Syncs a file, and refuses one that begins otherwise.
+fn check_name<F: LogFile>(file: &mut F, name: &[u8]) -> Result<(), NameFault>
+    ensures begins { OnOk result (BeginsWith (F.bytes file.old) name.now) }
+    ensures safe { OnOk result (F.safe file.new ≡ F.bytes file.new) }
+    ensures bytes { OnOk result (F.bytes file.new ≡ F.bytes file.old) }
+    ensures other { IfErr result (λ fault. fault ≡ NameFault.Other
+        → IsNot (F.bytes file.old) name.now) }
+    ensures untouched { IfErr result (λ fault. fault ≡ NameFault.Other
+        → F.bytes file.new ≡ F.bytes file.old) }
+    ensures kept { KeepsFront (F.safe file.old) (F.safe file.new) }
+    ensures least { F.least file.new ≡ F.least file.old }
+{
+    file.sync()?;
+    if !starts_with(file, name)? {
+        return Err(NameFault::Other);
+    }
+    Ok(())
+}
+
+impl<F: LogFile> NamedLog<F> {
     /// The log in a file that begins with this name. The file is synced first, so that all of it is
     /// safe. The faults are `Other`, where it begins with other bytes, and `Device`, where a call of
-    /// it failed; either lets go of the file. Costs a sync and the reads of the name, and no memory.
-    pub fn open(file: F, name: &[u8]) -> Result<NamedLog<F>, NameFault>
+    /// it failed. With either the file is handed back: nothing was written to it or cut from it, and
+    /// what was safe still is. Costs a sync and the reads of the name, and no memory.
+    pub fn open(file: F, name: &[u8]) -> Result<NamedLog<F>, (NameFault, F)>
         ensures ok { IfOk result (Opens (F.bytes file) name.now) }
-        ensures err { IfErr result (λ fault. fault ≡ NameFault.Other
+        ensures kept { IfOk result (λ log. KeepsFront (behind (length name.now) (F.safe file))
+            log.safe) }
+        ensures least { IfOk result (λ log. log.least
+            ≡ count_behind (length name.now) (F.least file)) }
+        ensures err { IfErr result (λ refused. refused.0 ≡ NameFault.Other
             → IsNot (F.bytes file) name.now) }
+        ensures untouched { IfErr result (λ refused. refused.0 ≡ NameFault.Other
+            → F.bytes refused.1 ≡ F.bytes file) }
+        ensures handed_back { IfErr result (λ refused. KeepsFront (F.safe file)
+            (F.safe refused.1)) }
+        ensures not_cut { IfErr result (λ refused. F.least refused.1 ≡ F.least file) }
     {
         let mut file = file;
-        file.sync()?;
-        if !starts_with(&mut file, name)? {
-            return Err(NameFault::Other);
+        match check_name(&mut file, name) {
+            Ok(()) => Ok(NamedLog {
+                file,
+                name: name.len() as u64,
+                lost: false,
+            }),
+            Err(fault) => Err((fault, file)),
         }
-        Ok(NamedLog {
-            file,
-            name: name.len() as u64,
-            lost: false,
-        })
     }
 }
 
@@ -85,37 +121,72 @@ impl<F: LogFile> LogFile for NamedLog<F> {
 
     ghost safe = { λ l. l.safe };
 
-    fn read_at(&mut self, at: u64, buffer: &mut [u8]) -> Result<usize, FileFailed> {
+    ghost least = { λ l. l.least };
+
+    fn read_at(&mut self, at: u64, buffer: &mut [u8]) -> Result<usize, FileFailed>
+        ensures bound { ReadsAtMost result buffer.new }
+        ensures read { IfOk result (λ n. ReadsAt self.old.bytes at n buffer.new) }
+        ensures same { self.new ≡ self.old }
+    {
         match self.name.checked_add(at) {
             Some(place) => self.file.read_at(place, buffer),
             None => Err(FileFailed),
         }
     }
 
-    fn write(&mut self, piece: &[u8]) -> Result<usize, FileFailed> {
+    /// One write behind all bytes. Fails where a call of the file does, or a sync has failed before.
+    fn write(&mut self, piece: &[u8]) -> Result<usize, FileFailed>
+        ensures bound { WritesAtMost result piece.now }
+        ensures bytes { AddsTo self.old.bytes self.new.bytes result piece.now }
+        ensures same { self.new ≡ record self.old { bytes = self.new.bytes } }
+        ensures lost { self.old.lost ≡ true → IsErr result }
+    {
         if self.lost {
             return Err(FileFailed);
         }
         self.file.write(piece)
     }
 
-    fn cut(&mut self, kept: u64) -> Result<(), FileFailed> {
+    /// Drops the bytes behind the first `kept` behind the name. Fails where a call of the file does, or
+    /// a sync has failed before.
+    fn cut(&mut self, kept: u64) -> Result<(), FileFailed>
+        requires within { AreThere kept self.old.bytes }
+        ensures bytes { CutsTo kept self.old.bytes self.new.bytes result }
+        ensures safe { CutsTo kept self.old.safe self.new.safe result }
+        ensures least { LowersTo kept self.old.least self.new.least result }
+        ensures same { self.new ≡ record self.old {
+          bytes = self.new.bytes;
+          safe = self.new.safe;
+          least = self.new.least;
+        } }
+        ensures lost { self.old.lost ≡ true → IsErr result }
+    {
         match self.name.checked_add(kept) {
             Some(place) if !self.lost => self.file.cut(place),
             _ => Err(FileFailed),
         }
     }
 
-    fn sync(&mut self) -> Result<(), FileFailed> {
-        if self.lost {
+    /// Makes all bytes safe. Where it fails the log is lost: from there on each write, cut and sync
+    /// fails.
+    fn sync(&mut self) -> Result<(), FileFailed>
+        ensures ok { OnOk result (self.new ≡ record self.old {
+          safe = self.old.bytes;
+          name = self.new.name;
+        }) }
+        ensures sound { OnOk result (self.old.lost ≡ false) }
+        ensures kept { KeepsFront self.old.safe self.new.safe }
+        ensures name { Keeps self.old.name self.new.name }
+        ensures err { OnErr result (self.new ≡ record self.old {
+          bytes = self.new.bytes;
+          lost = true;
+        }) }
+        ensures lost { self.old.lost ≡ true → self.new ≡ self.old }
+    {
+        if self.lost || self.file.sync().is_err() {
+            self.lost = true;
             return Err(FileFailed);
         }
-        match self.file.sync() {
-            Ok(()) => Ok(()),
-            Err(FileFailed) => {
-                self.lost = true;
-                Err(FileFailed)
-            }
-        }
+        Ok(())
     }
 }

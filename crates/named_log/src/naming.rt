@@ -13,6 +13,7 @@ pub(crate) fn starts_with<F: LogFile>(file: &mut F, name: &[u8]) -> Result<bool,
     ensures starts { IfOk result (λ starts. StartsAs starts (F.bytes file.old) name.now) }
     ensures bytes { F.bytes file.new ≡ F.bytes file.old }
     ensures safe { F.safe file.new ≡ F.safe file.old }
+    ensures least { F.least file.new ≡ F.least file.old }
 {
     let mut piece = [0u8; PIECE];
     let mut seen = 0;

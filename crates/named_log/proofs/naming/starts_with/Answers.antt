@@ -45,6 +45,7 @@ loop-seen-preserved g c =
       same = met-more (g.F.LogFile.bytes c.args.file.now) seen n count name buffer (omega arith) before.same same reads;
       bytes = c.in_ok-count.ensures.bytes ∙ before.bytes;
       safe = c.in_ok-count.ensures.safe ∙ before.safe;
+      least = c.in_ok-count.ensures.least ∙ before.least;
     }
 
 pub returns-clause-starts : goal.returns-clause-starts

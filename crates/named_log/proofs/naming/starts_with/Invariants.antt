@@ -10,6 +10,7 @@ invariant-loop-seen g l = record {
   same : HasMet (g.F.LogFile.bytes l.initial.file) l.seen l.name;
   bytes : g.F.LogFile.bytes l.file ≡ g.F.LogFile.bytes l.initial.file;
   safe : g.F.LogFile.safe l.file ≡ g.F.LogFile.safe l.initial.file;
+  least : g.F.LogFile.least l.file ≡ g.F.LogFile.least l.initial.file;
 }
 
 abbrev pub decreases-loop-seen : goal.decreases-loop-seen
