@@ -7,18 +7,27 @@ use Rattle.std.proofs.lemmas.Slice.Eq.{bytes_eq-Decides}
 use Rattle.std.proofs.lemmas.List.Elements.{All-append, All-take}
 use Rattle.std.proofs.Math.Dec.{eqb-suc-zero}
 use Rattle.std.proofs.Math.Seq.{take-append-add}
-use Rattle.file_medium.specs.Files.{cut_known}
+use Rattle.file_medium.specs.Files.{cut_known, KeepsFront}
 use Rattle.file_medium.specs.Copies.{IsFrontOf, IsCopyOf}
 use Rattle.sealed_text.specs.Seals.{sealed_batch, sealed_text, closed_text, end_batch, is_batch_byte, EndsInLineFeed, IsBatch, IsRecords, IsEnd, IsDamagedAt, Unseals}
 use Rattle.sealed_text.specs.declared.reading.Unsealed.{Unsealed}
 use Rattle.sealed_log.specs.declared.fault.SealFault.TheVariants.{Damaged, Ended}
-use Rattle.sealed_log.specs.Sealed.{closed_of, leaving_out, IsClosed, AreClosed, IsOpen, IsSealed, CutsTorn, Closes, Opens, Refuses, IsLengthOf, log_of, sealed_open}
+use Rattle.sealed_log.specs.Sealed.{closed_of, leaving_out, IsClosed, AreClosed, IsOpen, IsSealed, CutsTorn, Closes, Opens, Refuses, IsLengthOf, SealedBatches, log_of, sealed_open}
 use Rattle.sealed_log.proofs.Leaving.{records-of, closed-records, closed-push, closed-end, concat-push}
 
 -- nothing is added
 pub append_known-nil : (known : Option (List ℕ)) → append_known known [] ≡ known
 append_known-nil None = refl
 append_known-nil (Some xs) = ap Some (append-nil xs)
+
+-- what is there is a front of itself, and of what is added to it
+pub keeps-all : (known : Option (List ℕ)) → KeepsFront known known
+keeps-all None = tt
+keeps-all (Some xs) = sym (take_all (length xs) xs (omega arith))
+
+pub keeps-added : (known : Option (List ℕ)) (more : List ℕ) → KeepsFront known (append_known known more)
+keeps-added None more = tt
+keeps-added (Some xs) more = sym (take_at xs more (length xs) refl)
 
 -- ---- a batch is closed
 
@@ -104,9 +113,9 @@ cut-closed closed kept (Some text) behind =
 -- ---- what holds of every log
 
 -- the file is closed too, where no call of it has failed
-pub file-closed : (closed : ℕ) (lost is_ended : Bool) (file safe : Option (List ℕ)) (records batch : List ℕ) (room : ℕ)
-    → IsSealed closed lost is_ended file safe records batch room → lost ≡ false → AreClosed closed is_ended file
-file-closed closed lost is_ended file safe records batch room is sound = subst (AreClosed closed is_ended) (sym (is.is_safe sound)) is.is_closed
+pub file-closed : (closed : ℕ) (lost is_ended : Bool) (file safe : Option (List ℕ)) (records batch : List ℕ) (room opened : ℕ)
+    → IsSealed closed lost is_ended file safe records batch room opened → lost ≡ false → AreClosed closed is_ended file
+file-closed closed lost is_ended file safe records batch room opened is sound = subst (AreClosed closed is_ended) (sym (is.is_safe sound)) is.is_closed
 
 -- an open batch that is some, and not the one that ends a world, is one of records
 pub open-records : (batch : List ℕ) → IsOpen batch → batch ≢ [] → batch ≢ end_batch → IsRecords batch
@@ -119,10 +128,10 @@ sealed_open-some (b ∷ bs) one = refl
 
 -- a batch was closed, and the file synced
 pub sealed-closed : (closed new_closed : ℕ) (lost is_ended : Bool) (file safe new new_safe : Option (List ℕ)) (records batch left : List ℕ)
-    (room new_room : ℕ) → IsSealed closed lost is_ended file safe records batch room → lost ≡ false → is_ended ≡ false → IsRecords batch
+    (room new_room opened : ℕ) → IsSealed closed lost is_ended file safe records batch room opened → lost ≡ false → is_ended ≡ false → IsRecords batch
     → new ≡ append_known file (sealed_batch batch) → new_safe ≡ new → left ≡ [] → new_closed ≡ closed + length batch
-    → IsSealed new_closed lost is_ended new new_safe records left new_room
-sealed-closed closed new_closed lost is_ended file safe new new_safe records batch left room new_room is sound going one added synced none count =
+    → IsSealed new_closed lost is_ended new new_safe records left new_room opened
+sealed-closed closed new_closed lost is_ended file safe new new_safe records batch left room new_room opened is sound going one added synced none count =
     let to : new_safe ≡ append_known safe (sealed_batch batch) =
     synced ∙ added ∙ ap (λ k. append_known k (sealed_batch batch)) (is.is_safe sound) in
     let before : AreClosed closed false safe = subst (λ e. AreClosed closed e safe) going is.is_closed in
@@ -137,51 +146,64 @@ sealed-closed closed new_closed lost is_ended file safe new new_safe records bat
       front = subst (λ k. IsFrontOf k records) same (front-push (closed_of closed safe) batch records is.front);
       whole = inl none;
       has_room = λ some. absurd (omega (arith, some, ap (length {A = ℕ}) none));
+      opened_is = omega (arith, is.opened_is, count);
     }
 
 -- its records are those of before
-pub bytes-closed : (closed new_closed : ℕ) (lost is_ended : Bool) (file safe new : Option (List ℕ)) (records batch left : List ℕ) (room : ℕ)
-    → IsSealed closed lost is_ended file safe records batch room → lost ≡ false → is_ended ≡ false → IsRecords batch
+pub bytes-closed : (closed new_closed : ℕ) (lost is_ended : Bool) (file safe new : Option (List ℕ)) (records batch left : List ℕ) (room opened : ℕ)
+    → IsSealed closed lost is_ended file safe records batch room opened → lost ≡ false → is_ended ≡ false → IsRecords batch
     → new ≡ append_known file (sealed_batch batch) → left ≡ [] → new_closed ≡ closed + length batch
     → append_known (closed_of new_closed new) left ≡ append_known (closed_of closed file) batch
-bytes-closed closed new_closed lost is_ended file safe new records batch left room is sound going one added none count =
-    let before : AreClosed closed false file = subst (λ e. AreClosed closed e file) going (file-closed closed lost is_ended file safe records batch room is sound) in
+bytes-closed closed new_closed lost is_ended file safe new records batch left room opened is sound going one added none count =
+    let before : AreClosed closed false file = subst (λ e. AreClosed closed e file) going (file-closed closed lost is_ended file safe records batch room opened is sound) in
     ap (append_known (closed_of new_closed new)) none ∙ append_known-nil (closed_of new_closed new)
     ∙ ap (λ n. closed_of n new) count ∙ ap (closed_of (closed + length batch)) added
     ∙ closed_of-push closed file batch before one
 
 -- what is seen of it then
-pub view-closed : (closed new_closed : ℕ) (lost is_ended : Bool) (file safe new new_safe : Option (List ℕ)) (records batch left : List ℕ) (room : ℕ)
-    → IsSealed closed lost is_ended file safe records batch room → lost ≡ false → is_ended ≡ false → IsRecords batch
-    → new ≡ append_known file (sealed_batch batch) → new_safe ≡ new → left ≡ [] → new_closed ≡ closed + length batch
-    → log_of new_closed lost is_ended new new_safe left ≡ record (log_of closed lost is_ended file safe batch) {
+pub view-closed : (closed new_closed : ℕ) (lost is_ended : Bool) (file safe new new_safe : Option (List ℕ)) (records batch left : List ℕ) (room opened : ℕ) (least new_least : Option ℕ)
+    → IsSealed closed lost is_ended file safe records batch room opened → lost ≡ false → is_ended ≡ false → IsRecords batch
+    → new ≡ append_known file (sealed_batch batch) → new_safe ≡ new → left ≡ [] → new_closed ≡ closed + length batch → new_least ≡ least
+    → log_of new_closed lost is_ended new new_safe left opened new_least ≡ record (log_of closed lost is_ended file safe batch opened least) {
       safe = append_known (closed_of closed file) batch;
       closed = closed + length batch;
       batch = [];
       file = append_known file (sealed_open batch);
       file_safe = new;
     }
-view-closed closed new_closed lost is_ended file safe new new_safe records batch left room is sound going one added synced none count =
+view-closed closed new_closed lost is_ended file safe new new_safe records batch left room opened least new_least is sound going one added synced none count same_least =
     let all = append_known (closed_of closed file) batch in
     let bytes : append_known (closed_of new_closed new) left ≡ all =
-    bytes-closed closed new_closed lost is_ended file safe new records batch left room is sound going one added none count in
+    bytes-closed closed new_closed lost is_ended file safe new records batch left room opened is sound going one added none count in
     let kept : closed_of new_closed new_safe ≡ all =
     ap (closed_of new_closed) synced ∙ sym (append_known-nil (closed_of new_closed new))
     ∙ ap (append_known (closed_of new_closed new)) (sym none) ∙ bytes in
     let more : new ≡ append_known file (sealed_open batch) = added ∙ ap (append_known file) (sym (sealed_open-some batch one)) in
-    ap (λ k. record { bytes = k; safe = closed_of new_closed new_safe; closed = new_closed; batch = left; is_lost = lost; is_ended = is_ended; file = new; file_safe = new_safe }) bytes
-    ∙ ap (λ k. record { bytes = all; safe = k; closed = new_closed; batch = left; is_lost = lost; is_ended = is_ended; file = new; file_safe = new_safe }) kept
-    ∙ ap (λ n. record { bytes = all; safe = all; closed = n; batch = left; is_lost = lost; is_ended = is_ended; file = new; file_safe = new_safe }) count
-    ∙ ap (λ l. record { bytes = all; safe = all; closed = closed + length batch; batch = l; is_lost = lost; is_ended = is_ended; file = new; file_safe = new_safe }) none
-    ∙ ap (λ k. record { bytes = all; safe = all; closed = closed + length batch; batch = []; is_lost = lost; is_ended = is_ended; file = new; file_safe = k }) synced
-    ∙ ap (λ k. record { bytes = all; safe = all; closed = closed + length batch; batch = []; is_lost = lost; is_ended = is_ended; file = k; file_safe = new }) more
+    ap (λ k. record { bytes = k; safe = closed_of new_closed new_safe; closed = new_closed; batch = left; is_lost = lost; is_ended = is_ended; file = new; file_safe = new_safe; opened = opened; file_least = new_least }) bytes
+    ∙ ap (λ k. record { bytes = all; safe = k; closed = new_closed; batch = left; is_lost = lost; is_ended = is_ended; file = new; file_safe = new_safe; opened = opened; file_least = new_least }) kept
+    ∙ ap (λ n. record { bytes = all; safe = all; closed = n; batch = left; is_lost = lost; is_ended = is_ended; file = new; file_safe = new_safe; opened = opened; file_least = new_least }) count
+    ∙ ap (λ l. record { bytes = all; safe = all; closed = closed + length batch; batch = l; is_lost = lost; is_ended = is_ended; file = new; file_safe = new_safe; opened = opened; file_least = new_least }) none
+    ∙ ap (λ k. record { bytes = all; safe = all; closed = closed + length batch; batch = []; is_lost = lost; is_ended = is_ended; file = new; file_safe = k; opened = opened; file_least = new_least }) synced
+    ∙ ap (λ k. record { bytes = all; safe = all; closed = closed + length batch; batch = []; is_lost = lost; is_ended = is_ended; file = k; file_safe = new; opened = opened; file_least = new_least }) more
+    ∙ ap (λ k. record { bytes = all; safe = all; closed = closed + length batch; batch = []; is_lost = lost; is_ended = is_ended; file = append_known file (sealed_open batch); file_safe = new; opened = opened; file_least = k }) same_least
+
+-- what was safe of it still is
+pub kept-closed : (closed new_closed : ℕ) (lost is_ended : Bool) (file safe new new_safe : Option (List ℕ)) (records batch left : List ℕ) (room opened : ℕ) (least new_least : Option ℕ)
+    → IsSealed closed lost is_ended file safe records batch room opened → lost ≡ false → is_ended ≡ false → IsRecords batch
+    → new ≡ append_known file (sealed_batch batch) → new_safe ≡ new → left ≡ [] → new_closed ≡ closed + length batch → new_least ≡ least
+    → KeepsFront (closed_of closed safe) (closed_of new_closed new_safe)
+kept-closed closed new_closed lost is_ended file safe new new_safe records batch left room opened least new_least is sound going one added synced none count same_least =
+    let view = view-closed closed new_closed lost is_ended file safe new new_safe records batch left room opened least new_least is sound going one added synced none count same_least in
+    let to : closed_of new_closed new_safe ≡ append_known (closed_of closed safe) batch =
+    ap (λ (v : SealedBatches). v.safe) view ∙ ap (λ k. append_known (closed_of closed k) batch) (is.is_safe sound) in
+    subst (KeepsFront (closed_of closed safe)) (sym to) (keeps-added (closed_of closed safe) batch)
 
 -- the world was ended, and the file synced
-pub sealed-ended : (closed : ℕ) (lost is_ended : Bool) (file safe new new_safe : Option (List ℕ)) (records batch left : List ℕ) (room new_room : ℕ)
-    → IsSealed closed lost is_ended file safe records batch room → lost ≡ false → is_ended ≡ false
+pub sealed-ended : (closed : ℕ) (lost is_ended : Bool) (file safe new new_safe : Option (List ℕ)) (records batch left : List ℕ) (room new_room opened : ℕ)
+    → IsSealed closed lost is_ended file safe records batch room opened → lost ≡ false → is_ended ≡ false
     → new ≡ append_known file (sealed_batch end_batch) → new_safe ≡ new → left ≡ []
-    → IsSealed closed lost true new new_safe records left new_room
-sealed-ended closed lost is_ended file safe new new_safe records batch left room new_room is sound going added synced none =
+    → IsSealed closed lost true new new_safe records left new_room opened
+sealed-ended closed lost is_ended file safe new new_safe records batch left room new_room opened is sound going added synced none =
     let to : new_safe ≡ append_known safe (sealed_batch end_batch) =
     synced ∙ added ∙ ap (λ k. append_known k (sealed_batch end_batch)) (is.is_safe sound) in
     let before : AreClosed closed false safe = subst (λ e. AreClosed closed e safe) going is.is_closed in
@@ -192,46 +214,49 @@ sealed-ended closed lost is_ended file safe new new_safe records batch left room
       front = subst (λ k. IsFrontOf k records) (sym (ap (closed_of closed) to ∙ closed_of-end closed safe before)) is.front;
       whole = inl none;
       has_room = λ some. absurd (omega (arith, some, ap (length {A = ℕ}) none));
+      opened_is = is.opened_is;
     }
 
 -- what is seen of it then
-pub view-ended : (closed : ℕ) (lost is_ended : Bool) (file safe new new_safe : Option (List ℕ)) (records batch left : List ℕ) (room : ℕ)
-    → IsSealed closed lost is_ended file safe records batch room → lost ≡ false → is_ended ≡ false
-    → new ≡ append_known file (sealed_batch end_batch) → new_safe ≡ new → left ≡ [] → batch ≡ []
-    → log_of closed lost true new new_safe left ≡ record (log_of closed lost is_ended file safe batch) {
+pub view-ended : (closed : ℕ) (lost is_ended : Bool) (file safe new new_safe : Option (List ℕ)) (records batch left : List ℕ) (room opened : ℕ) (least new_least : Option ℕ)
+    → IsSealed closed lost is_ended file safe records batch room opened → lost ≡ false → is_ended ≡ false
+    → new ≡ append_known file (sealed_batch end_batch) → new_safe ≡ new → left ≡ [] → batch ≡ [] → new_least ≡ least
+    → log_of closed lost true new new_safe left opened new_least ≡ record (log_of closed lost is_ended file safe batch opened least) {
       is_ended = true;
       file = append_known file (sealed_batch end_batch);
       file_safe = new;
     }
-view-ended closed lost is_ended file safe new new_safe records batch left room is sound going added synced none nothing =
-    let before : AreClosed closed false file = subst (λ e. AreClosed closed e file) going (file-closed closed lost is_ended file safe records batch room is sound) in
+view-ended closed lost is_ended file safe new new_safe records batch left room opened least new_least is sound going added synced none nothing same_least =
+    let before : AreClosed closed false file = subst (λ e. AreClosed closed e file) going (file-closed closed lost is_ended file safe records batch room opened is sound) in
     let same : closed_of closed new ≡ closed_of closed file = ap (closed_of closed) added ∙ closed_of-end closed file before in
     let still : closed_of closed new_safe ≡ closed_of closed safe = ap (closed_of closed) synced ∙ same ∙ ap (closed_of closed) (is.is_safe sound) in
     let left_is : left ≡ batch = none ∙ sym nothing in
-    ap (λ k. record { bytes = append_known k left; safe = closed_of closed new_safe; closed = closed; batch = left; is_lost = lost; is_ended = true; file = new; file_safe = new_safe }) same
-    ∙ ap (λ k. record { bytes = append_known (closed_of closed file) left; safe = k; closed = closed; batch = left; is_lost = lost; is_ended = true; file = new; file_safe = new_safe }) still
-    ∙ ap (λ l. record { bytes = append_known (closed_of closed file) l; safe = closed_of closed safe; closed = closed; batch = l; is_lost = lost; is_ended = true; file = new; file_safe = new_safe }) left_is
-    ∙ ap (λ k. record { bytes = append_known (closed_of closed file) batch; safe = closed_of closed safe; closed = closed; batch = batch; is_lost = lost; is_ended = true; file = new; file_safe = k }) synced
-    ∙ ap (λ k. record { bytes = append_known (closed_of closed file) batch; safe = closed_of closed safe; closed = closed; batch = batch; is_lost = lost; is_ended = true; file = k; file_safe = new }) added
+    ap (λ k. record { bytes = append_known k left; safe = closed_of closed new_safe; closed = closed; batch = left; is_lost = lost; is_ended = true; file = new; file_safe = new_safe; opened = opened; file_least = new_least }) same
+    ∙ ap (λ k. record { bytes = append_known (closed_of closed file) left; safe = k; closed = closed; batch = left; is_lost = lost; is_ended = true; file = new; file_safe = new_safe; opened = opened; file_least = new_least }) still
+    ∙ ap (λ l. record { bytes = append_known (closed_of closed file) l; safe = closed_of closed safe; closed = closed; batch = l; is_lost = lost; is_ended = true; file = new; file_safe = new_safe; opened = opened; file_least = new_least }) left_is
+    ∙ ap (λ k. record { bytes = append_known (closed_of closed file) batch; safe = closed_of closed safe; closed = closed; batch = batch; is_lost = lost; is_ended = true; file = new; file_safe = k; opened = opened; file_least = new_least }) synced
+    ∙ ap (λ k. record { bytes = append_known (closed_of closed file) batch; safe = closed_of closed safe; closed = closed; batch = batch; is_lost = lost; is_ended = true; file = k; file_safe = new; opened = opened; file_least = new_least }) added
+    ∙ ap (λ k. record { bytes = append_known (closed_of closed file) batch; safe = closed_of closed safe; closed = closed; batch = batch; is_lost = lost; is_ended = true; file = append_known file (sealed_batch end_batch); file_safe = new; opened = opened; file_least = k }) same_least
 
 -- a piece was added to the open batch
-pub sealed-written : (closed : ℕ) (lost is_ended : Bool) (file safe : Option (List ℕ)) (records batch piece more : List ℕ) (room new_room : ℕ)
-    → IsSealed closed lost is_ended file safe records batch room → IsBatch piece → more ≡ batch ++ piece → length more + 21 ≤ new_room
-    → IsSealed closed lost is_ended file safe records more new_room
-sealed-written closed lost is_ended file safe records batch piece more room new_room is lines added fits = record {
+pub sealed-written : (closed : ℕ) (lost is_ended : Bool) (file safe : Option (List ℕ)) (records batch piece more : List ℕ) (room new_room opened : ℕ)
+    → IsSealed closed lost is_ended file safe records batch room opened → IsBatch piece → more ≡ batch ++ piece → length more + 21 ≤ new_room
+    → IsSealed closed lost is_ended file safe records more new_room opened
+sealed-written closed lost is_ended file safe records batch piece more room new_room opened is lines added fits = record {
   is_closed = is.is_closed;
   is_safe = is.is_safe;
   few = is.few;
   front = is.front;
   whole = inr (subst IsBatch (sym added) (open-append batch piece is.whole lines));
   has_room = λ some. fits;
+  opened_is = is.opened_is;
 }
 
 -- the open batch was cut
-pub sealed-cut : (closed kept : ℕ) (lost is_ended : Bool) (file safe : Option (List ℕ)) (records batch left : List ℕ) (room : ℕ)
-    → IsSealed closed lost is_ended file safe records batch room → (0 < kept → EndsInLineFeed (take kept batch)) → left ≡ take kept batch
-    → IsSealed closed lost is_ended file safe records left room
-sealed-cut closed kept lost is_ended file safe records batch left room is ends cut =
+pub sealed-cut : (closed kept : ℕ) (lost is_ended : Bool) (file safe : Option (List ℕ)) (records batch left : List ℕ) (room opened : ℕ)
+    → IsSealed closed lost is_ended file safe records batch room opened → (0 < kept → EndsInLineFeed (take kept batch)) → left ≡ take kept batch
+    → IsSealed closed lost is_ended file safe records left room opened
+sealed-cut closed kept lost is_ended file safe records batch left room opened is ends cut =
     let fewer : length left ≤ length batch = omega (arith, ap (length {A = ℕ}) cut, length-take kept batch) in
     record {
       is_closed = is.is_closed;
@@ -240,32 +265,34 @@ sealed-cut closed kept lost is_ended file safe records batch left room is ends c
       front = is.front;
       whole = subst IsOpen (sym cut) (open-take kept batch is.whole ends);
       has_room = λ some. omega (arith, fewer, some, is.has_room (omega (arith, fewer, some)));
+      opened_is = is.opened_is;
     }
 
 -- what is seen of it then
-pub view-cut : (closed kept : ℕ) (lost is_ended : Bool) (file safe : Option (List ℕ)) (records batch left : List ℕ) (room : ℕ)
-    → IsSealed closed lost is_ended file safe records batch room → lost ≡ false → closed ≤ kept → left ≡ take (kept - closed) batch
-    → log_of closed lost is_ended file safe left ≡ record (log_of closed lost is_ended file safe batch) {
+pub view-cut : (closed kept : ℕ) (lost is_ended : Bool) (file safe : Option (List ℕ)) (records batch left : List ℕ) (room opened : ℕ) (least : Option ℕ)
+    → IsSealed closed lost is_ended file safe records batch room opened → lost ≡ false → closed ≤ kept → left ≡ take (kept - closed) batch
+    → log_of closed lost is_ended file safe left opened least ≡ record (log_of closed lost is_ended file safe batch opened least) {
       bytes = cut_known kept (append_known (closed_of closed file) batch);
       batch = take (kept - closed) batch;
     }
-view-cut closed kept lost is_ended file safe records batch left room is sound behind cut =
+view-cut closed kept lost is_ended file safe records batch left room opened least is sound behind cut =
     let lines = take (kept - closed) batch in
-    ap (λ l. log_of closed lost is_ended file safe l) cut
-    ∙ ap (λ b. record { bytes = b; safe = closed_of closed safe; closed = closed; batch = lines; is_lost = lost; is_ended = is_ended; file = file; file_safe = safe })
-    (cut-open closed kept is_ended file batch (file-closed closed lost is_ended file safe records batch room is sound) behind)
+    ap (λ l. log_of closed lost is_ended file safe l opened least) cut
+    ∙ ap (λ b. record { bytes = b; safe = closed_of closed safe; closed = closed; batch = lines; is_lost = lost; is_ended = is_ended; file = file; file_safe = safe; opened = opened; file_least = least })
+    (cut-open closed kept is_ended file batch (file-closed closed lost is_ended file safe records batch room opened is sound) behind)
 
 -- a call of the file has failed
-pub sealed-lost : (closed : ℕ) (lost is_ended : Bool) (file safe new new_safe : Option (List ℕ)) (records batch : List ℕ) (room new_room : ℕ)
-    → IsSealed closed lost is_ended file safe records batch room → new_safe ≡ safe
-    → IsSealed closed true is_ended new new_safe records [] new_room
-sealed-lost closed lost is_ended file safe new new_safe records batch room new_room is kept = record {
+pub sealed-lost : (closed : ℕ) (lost is_ended : Bool) (file safe new new_safe : Option (List ℕ)) (records batch : List ℕ) (room new_room opened : ℕ)
+    → IsSealed closed lost is_ended file safe records batch room opened → new_safe ≡ safe
+    → IsSealed closed true is_ended new new_safe records [] new_room opened
+sealed-lost closed lost is_ended file safe new new_safe records batch room new_room opened is kept = record {
   is_closed = subst (AreClosed closed is_ended) (sym kept) is.is_closed;
   is_safe = λ sound. absurd cc;
   few = is.few;
   front = subst (λ k. IsFrontOf (closed_of closed k) records) (sym kept) is.front;
   whole = inl refl;
   has_room = λ some. absurd (omega (arith, some));
+  opened_is = is.opened_is;
 }
 
 -- ---- an opening
@@ -281,7 +308,7 @@ opened-records text held file cut =
     records-of (length held) false cut.batches cut.begins.records (ap length (same-records text held file cut))
 
 pub sealed-opened : (known file safe : Option (List ℕ)) (held batch : List ℕ) (closed room : ℕ) → Closes known file held → safe ≡ file
-    → closed ≡ length held → batch ≡ [] → IsSealed closed false false file safe held batch room
+    → closed ≡ length held → batch ≡ [] → IsSealed closed false false file safe held batch room closed
 sealed-opened None file safe held batch closed room none synced count nothing =
     let unknown : safe ≡ None = synced ∙ none in
     record {
@@ -291,6 +318,7 @@ sealed-opened None file safe held batch closed room none synced count nothing =
       front = subst (λ k. IsFrontOf (closed_of closed k) held) (sym unknown) tt;
       whole = inl nothing;
       has_room = λ some. absurd (omega (arith, some, ap (length {A = ℕ}) nothing));
+      opened_is = omega arith;
     }
 sealed-opened (Some text) file safe held batch closed room cut synced count nothing =
     let same = same-records text held file cut in
@@ -307,13 +335,14 @@ sealed-opened (Some text) file safe held batch closed room cut synced count noth
           (all ∙ sym (take_all (length held) (take closed (leaving_out 0 (sealed_text cut.batches))) (omega (arith, ap (length {A = ℕ}) all))));
       whole = inl nothing;
       has_room = λ some. absurd (omega (arith, some, ap (length {A = ℕ}) nothing));
+      opened_is = omega arith;
     }
 
-pub opened : (known file safe : Option (List ℕ)) (held batch : List ℕ) (closed : ℕ) → Closes known file held
-    → closed ≡ length held → batch ≡ [] → Opens known (log_of closed false false file safe batch)
-opened None file safe held batch closed none count nothing =
+pub opened : (known file safe : Option (List ℕ)) (held batch : List ℕ) (closed first : ℕ) (least : Option ℕ) → Closes known file held
+    → closed ≡ length held → batch ≡ [] → Opens known (log_of closed false false file safe batch first least)
+opened None file safe held batch closed first least none count nothing =
     (none, ap (λ k. append_known (closed_of closed k) batch) none)
-opened (Some text) file safe held batch closed cut count nothing = record {
+opened (Some text) file safe held batch closed first least cut count nothing = record {
   batches = cut.batches;
   torn = cut.torn;
   begins = cut.begins;

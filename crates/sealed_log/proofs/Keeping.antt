@@ -1,13 +1,14 @@
 -- What an opening leaves of the closed batches of a file: all of them (this project).
-use Rattle.std.proofs.Common.{append_assoc, ◌≡◌, ◌⊎◌, inl, inr, false, ℕ, List, [], ◌∷◌, ◌++◌, length, take, All, Option, None, Some, Result, Ok, Err, OnOk, OnErr, refl, sym, ap, subst, ◌∙◌}
-use Rattle.std.proofs.lemmas.List.{append_cancel_left, take_at}
+use Rattle.std.proofs.Common.{append_assoc, ◌≡◌, ◌≤◌, ◌⊎◌, inl, inr, false, ℕ, List, [], ◌∷◌, ◌++◌, length, take, drop, All, Option, None, Some, Result, Ok, Err, OnOk, OnErr, refl, sym, ap, subst, ◌∙◌, arith}
+use Rattle.std.proofs.lemmas.List.{append_cancel_left, length-append, take-append-drop, take_at}
 use Rattle.std.proofs.lemmas.List.Elements.{All-head, All-tail}
-use Rattle.file_medium.specs.Files.{cut_known}
+use Rattle.file_medium.specs.Files.{KeepsFront, LowersTo, SparesFront, cut_known}
+use Rattle.file_medium.proofs.Fronts.{spares-cut, spares-same}
 use Rattle.file_medium.specs.Copies.{IsCopyOf}
 use Rattle.sealed_text.specs.Seals.{sum_line, sealed_batch, sealed_text, closed_text, IsBatch, IsRecords, IsTorn, IsEnd, Unseals}
 use Rattle.sealed_text.specs.declared.reading.Unsealed.{Unsealed}
 use Rattle.sealed_text.proofs.Cuts.{batch_clear, line_begins, closed_cut, closed_not_torn}
-use Rattle.sealed_log.specs.Sealed.{KeepsAll, LosesNothing}
+use Rattle.sealed_log.specs.Sealed.{KeepsAll, LosesNothing, SparesClosed}
 
 same_first : (b c x y : List ℕ) → IsBatch b → IsBatch c → sealed_batch b ++ x ≡ sealed_batch c ++ y → (b ≡ c) × (x ≡ y)
 same_first b c x y batch other is =
@@ -65,9 +66,60 @@ cut-synced (Err e) whole old cut_bytes cut_safe bytes safe cut cut_too same ok e
 pub loses-none : (held safe new : Option (List ℕ)) → new ≡ held → LosesNothing held safe new
 loses-none held safe new is = inr (subst (KeepsAll held) (sym is) (keeps-same held))
 
--- and so where what isn't closed was cut off then
+-- and so where what isn't closed was cut off next
 pub loses-cut : (held safe synced new : Option (List ℕ)) (text : List ℕ) (u : Unsealed) → synced ≡ held → IsCopyOf held text → Unseals text u
     → u.is_ended ≡ false → (new ≡ synced) ⊎ (new ≡ cut_known u.whole synced) → LosesNothing held safe new
 loses-cut held safe synced new text u is copy un going (inl same) = loses-none held safe new (same ∙ is)
 loses-cut held safe synced new text u is copy un going (inr cut) =
     inr (subst (KeepsAll held) (sym (cut ∙ ap (cut_known u.whole) is)) (keeps-cut held text u copy un going))
+
+-- what is closed in what was safe stays, where the file was synced
+keeps-front : (safe held : Option (List ℕ)) → KeepsFront safe held → KeepsAll safe held
+keeps-front None held front = tt
+keeps-front (Some xs) None front = front
+keeps-front (Some xs) (Some ys) front = record {
+  keeps = λ batches rest begins. (
+    rest ++ drop (length xs) ys,
+    record {
+      records = begins.records;
+      text_is = sym (take-append-drop (length xs) ys) ∙ ap (λ (l : List ℕ). l ++ drop (length xs) ys) (sym front ∙ begins.text_is)
+          ∙ append_assoc (sealed_text batches) rest (drop (length xs) ys);
+    },
+  );
+}
+
+keeps-on : (safe held new : Option (List ℕ)) → KeepsAll safe held → KeepsAll held new → KeepsAll safe new
+keeps-on None held new first next = tt
+keeps-on (Some xs) None new first next = absurd first
+keeps-on (Some xs) (Some ys) None first next = absurd next
+keeps-on (Some xs) (Some ys) (Some zs) first next = record {
+  keeps = λ batches rest begins. let kept = first.keeps batches rest begins in next.keeps batches kept.0 kept.1;
+}
+
+pub keeps-synced : (safe synced held new : Option (List ℕ)) → KeepsFront safe synced → synced ≡ held → LosesNothing held synced new
+    → KeepsAll safe new
+keeps-synced safe synced held new front is (inl same) = keeps-front safe new (subst (KeepsFront safe) (sym same) front)
+keeps-synced safe synced held new front is (inr all) = keeps-on safe held new (keeps-front safe held (subst (KeepsFront safe) is front)) all
+
+pub keeps-read : (safe synced new : Option (List ℕ)) → KeepsFront safe synced → new ≡ synced → KeepsAll safe new
+keeps-read safe synced new front is = keeps-front safe new (subst (KeepsFront safe) (sym is) front)
+
+pub keeps-safe : (safe new : Option (List ℕ)) → KeepsFront safe new → KeepsAll safe new
+keeps-safe safe new front = keeps-front safe new front
+
+-- no cut went in front of what is closed
+pub spares-closed : (held : Option (List ℕ)) (old new : Option ℕ) → new ≡ old → SparesClosed held old new
+spares-closed None old new is = tt
+spares-closed (Some text) old new is = λ batches rest begins. spares-same (length (sealed_text batches)) old new is
+
+pub spares-torn : (held : Option (List ℕ)) (text : List ℕ) (u : Unsealed) (old new : Option ℕ) → IsCopyOf held text → Unseals text u
+    → u.is_ended ≡ false → SparesFront u.whole old new → SparesClosed held old new
+spares-torn None text u old new copy un going spares = tt
+spares-torn (Some xs) text u old new copy un going spares = λ batches rest begins.
+    let whole : u.whole ≡ length (sealed_text un.batches) = un.whole_is ∙ ap (λ e. length (closed_text e un.batches)) going in
+    let torn : IsTorn un.rest = subst (λ e. IsEnd e un.rest) going un.end in
+    let all : xs ≡ sealed_text un.batches ++ un.rest = copy ∙ un.begins.text_is in
+    let front = front-of un.batches batches un.rest rest un.begins.records begins.records torn (sym all ∙ begins.text_is) in
+    let less : length (sealed_text batches) ≤ u.whole =
+    omega (arith, whole, ap (length {A = ℕ}) front.1, length-append (sealed_text batches) front.0) in
+    λ n within spared. spares n (omega (arith, within, less)) spared

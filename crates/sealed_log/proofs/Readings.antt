@@ -48,13 +48,14 @@ front-none None = tt
 front-none (Some xs) = refl
 
 -- the first records are let go of
-pub sealed-let-go : (closed : ℕ) (lost is_ended : Bool) (file safe : Option (List ℕ)) (records batch : List ℕ) (room : ℕ)
-    → IsSealed closed lost is_ended file safe records batch room → IsSealed closed lost is_ended file safe [] batch room
-sealed-let-go closed lost is_ended file safe records batch room is = record {
+pub sealed-let-go : (closed : ℕ) (lost is_ended : Bool) (file safe : Option (List ℕ)) (records batch : List ℕ) (room opened : ℕ)
+    → IsSealed closed lost is_ended file safe records batch room opened → IsSealed closed lost is_ended file safe [] batch room opened
+sealed-let-go closed lost is_ended file safe records batch room opened is = record {
   is_closed = is.is_closed;
   is_safe = is.is_safe;
   few = omega arith;
   front = front-none (closed_of closed safe);
   whole = is.whole;
   has_room = is.has_room;
+  opened_is = is.opened_is;
 }

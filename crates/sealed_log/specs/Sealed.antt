@@ -3,14 +3,16 @@ use Rattle.std.specs.Prelude.{◌≡◌, ◌≤◌, ◌<◌, ◌+◌, ◌==◌, 
 use Rattle.std.specs.List.{concat}
 use Rattle.std.specs.Io.KnownBytes.{append_known}
 use Rattle.file_medium.specs.Copies.{IsFrontOf}
+use Rattle.file_medium.specs.Files.{SparesFront}
 use Rattle.sealed_text.specs.Seals.{IsBatch, IsRecords, IsTorn, BeginsWith, Unseals, IsDamagedAt, sealed_batch, sealed_text, closed_text}
 use Rattle.sealed_text.specs.declared.reading.Unsealed.{Unsealed}
 use Rattle.sealed_log.specs.declared.fault.SealFault.{SealFault}
 use Rattle.sealed_log.specs.declared.fault.SealFault.TheVariants.{Damaged, Ended, Device, NoMemory}
 
 -- The log as its callers see it: the records of the closed batches and of the open one, and those that are safe, each where they
--- are known; how many bytes of records are closed; the open batch; whether a sync has failed; whether the world was ended; and
--- what the file holds, and what of it is safe, where they are known.
+-- are known; how many bytes of records are closed; the open batch; whether a sync has failed; whether the world was ended; what
+-- the file holds, and what of it is safe, where they are known; how many bytes of records were closed when it was opened, which
+-- are the fewest that a cut of it has left; and the fewest bytes that a cut of the file has left, where that is known.
 pub record SealedBatches : Type 0 where
   pub bytes : Option (List ℕ)
   pub safe : Option (List ℕ)
@@ -20,6 +22,8 @@ pub record SealedBatches : Type 0 where
   pub is_ended : Bool
   pub file : Option (List ℕ)
   pub file_safe : Option (List ℕ)
+  pub opened : ℕ
+  pub file_least : Option ℕ
 
 -- A text without its sum lines: from each `s` (115) on the next 21 bytes are left out. So many bytes are left out before.
 abbrev pub leaving_out : ℕ → List ℕ → List ℕ
@@ -31,9 +35,9 @@ leaving_out (suc count) (b ∷ bs) = leaving_out count bs
 abbrev pub closed_of : ℕ → Option (List ℕ) → Option (List ℕ)
 closed_of closed known = option_map (λ text. take closed (leaving_out 0 text)) known
 
--- What callers see of a log: of the file, what it holds and what of it is safe, and of the open batch.
-abbrev pub log_of : ℕ → Bool → Bool → Option (List ℕ) → Option (List ℕ) → List ℕ → SealedBatches
-log_of closed is_lost is_ended file safe batch = record {
+-- What callers see of a log: of the file, what it holds, what of it is safe and what its cuts have left, and of the open batch.
+abbrev pub log_of : ℕ → Bool → Bool → Option (List ℕ) → Option (List ℕ) → List ℕ → ℕ → Option ℕ → SealedBatches
+log_of closed is_lost is_ended file safe batch opened file_least = record {
   bytes = append_known (closed_of closed file) batch;
   safe = closed_of closed safe;
   closed = closed;
@@ -42,6 +46,8 @@ log_of closed is_lost is_ended file safe batch = record {
   is_ended = is_ended;
   file = file;
   file_safe = safe;
+  opened = opened;
+  file_least = file_least;
 }
 
 -- The text is that of closed batches, of which the records have so many bytes; behind them stands the end of the world where it
@@ -62,8 +68,9 @@ abbrev pub IsOpen : List ℕ → Type 0
 IsOpen batch = (batch ≡ []) ⊎ IsBatch batch
 
 -- What holds of every log: the safe bytes of the file are closed, and are all that it holds unless a sync has failed; the records
--- that are kept in memory are the first ones; the open batch has whole lines, and room for the line that closes it.
-pub record IsSealed (closed : ℕ) (is_lost is_ended : Bool) (file safe : Option (List ℕ)) (records batch : List ℕ) (room : ℕ)
+-- that are kept in memory are the first ones; the open batch has whole lines, and room for the line that closes it; and what was
+-- closed at the opening still is.
+pub record IsSealed (closed : ℕ) (is_lost is_ended : Bool) (file safe : Option (List ℕ)) (records batch : List ℕ) (room opened : ℕ)
     : Type 0 where
   pub is_closed : AreClosed closed is_ended safe
   pub is_safe : is_lost ≡ false → file ≡ safe
@@ -71,6 +78,7 @@ pub record IsSealed (closed : ℕ) (is_lost is_ended : Bool) (file safe : Option
   pub front : IsFrontOf (closed_of closed safe) records
   pub whole : IsOpen batch
   pub has_room : 0 < length batch → length batch + 21 ≤ room
+  pub opened_is : opened ≤ closed
 
 -- The file held closed batches and what a stop leaves; now it holds the closed ones alone, of which these are the records.
 pub record CutsTorn (text : List ℕ) (file bytes : Option (List ℕ)) : Type 0 where
@@ -122,6 +130,18 @@ KeepsAll (Some old) (Some new) = KeepsClosed old new
 -- What is safe is what was, or has all that sums close in what the file held.
 abbrev pub LosesNothing : Option (List ℕ) → Option (List ℕ) → Option (List ℕ) → Type 0
 LosesNothing held safe new = (new ≡ safe) ⊎ KeepsAll held new
+
+-- From the one moment to the other no cut of the file went in front of the end of a closed batch of records that it held.
+abbrev pub SparesClosed : Option (List ℕ) → Option ℕ → Option ℕ → Type 0
+SparesClosed None old new = ⊤
+SparesClosed (Some text) old new = (batches : List (List ℕ)) (rest : List ℕ) → BeginsWith text batches rest
+    → SparesFront (length (sealed_text batches)) old new
+
+-- A file that isn't taken is as it was: it holds the same bytes, all of them safe, and no cut was made.
+pub record IsUntouched (bytes : Option (List ℕ)) (least : Option ℕ) (new new_safe : Option (List ℕ)) (new_least : Option ℕ) : Type 0 where
+  pub bytes_are : new ≡ bytes
+  pub all_safe : new_safe ≡ bytes
+  pub not_cut : new_least ≡ least
 
 -- So many are the known bytes.
 abbrev pub IsLengthOf : Option (List ℕ) → ℕ → Type 0

@@ -35,6 +35,7 @@ pub(crate) fn add_sealed<F: LogFile>(file: &mut F, batch: &mut Vec<u8>) -> Resul
         ≡ append_known (F.bytes file.old) (sealed_batch batch.old.items)) }
     ensures safe { OnOk result (F.safe file.new ≡ F.bytes file.new) }
     ensures kept { OnErr result (F.safe file.new ≡ F.safe file.old) }
+    ensures least { F.least file.new ≡ F.least file.old }
     ensures none { batch.new.items ≡ [] }
 {
     let line = sum_line(batch.as_slice());

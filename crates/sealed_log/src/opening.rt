@@ -1,10 +1,10 @@
 //! What a file holds when it is opened.
 
-ghost use Rattle.std.specs.Prelude.{◌≡◌, ◌≤◌, ◌⊎◌, false, true, length, IfOk, IfErr, OnOk};
+ghost use Rattle.std.specs.Prelude.{◌≡◌, ◌≢◌, ◌≤◌, ◌⊎◌, false, true, length, IfOk, IfErr, OnOk};
 ghost use Rattle.file_medium.specs.Copies.{IsCopyOf};
-ghost use Rattle.file_medium.specs.Files.{cut_known};
-ghost use Rattle.sealed_log.specs.declared.fault.SealFault.TheVariants.{Ended};
-ghost use Rattle.sealed_log.specs.Sealed.{Closes, LosesNothing, Refuses};
+ghost use Rattle.file_medium.specs.Files.{SparesFront, cut_known};
+ghost use Rattle.sealed_log.specs.declared.fault.SealFault.TheVariants.{Device, Ended};
+ghost use Rattle.sealed_log.specs.Sealed.{Closes, IsUntouched, KeepsAll, LosesNothing, Refuses, SparesClosed};
 
 use crate::fault::SealFault;
 use file_medium::{FileFailed, LogFile, read_whole};
@@ -21,6 +21,7 @@ fn cut_torn<F: LogFile>(file: &mut F, text: &[u8], whole: usize) -> Result<(), F
     ensures safe { OnOk result (F.safe file.new ≡ F.bytes file.new) }
     ensures kept { (F.safe file.new ≡ F.safe file.old)
         ⊎ (F.safe file.new ≡ cut_known whole (F.safe file.old)) }
+    ensures least { SparesFront whole (F.least file.old) (F.least file.new) }
 {
     if whole == text.len() {
         return Ok(());
@@ -46,6 +47,10 @@ pub(crate) fn read_closed<F: LogFile>(alloc: Global, file: &mut F) -> Result<Uns
     ensures safe { OnOk result (F.safe file.new ≡ F.bytes file.new) }
     ensures err { IfErr result (Refuses (F.bytes file.old)) }
     ensures kept { LosesNothing (F.bytes file.old) (F.safe file.old) (F.safe file.new) }
+    ensures safe_still { KeepsAll (F.safe file.old) (F.safe file.new) }
+    ensures spared { SparesClosed (F.bytes file.old) (F.least file.old) (F.least file.new) }
+    ensures untouched { IfErr result (λ fault. fault ≢ Device → IsUntouched (F.bytes file.old)
+        (F.least file.old) (F.bytes file.new) (F.safe file.new) (F.least file.new)) }
 {
     file.sync()?;
     let text = match read_whole(alloc, file) {

@@ -1,11 +1,11 @@
 //! The log of closed batches.
 
-ghost use Rattle.std.specs.Prelude.{◌≡◌, ◌≢◌, ◌+◌, ◌-◌, ◌≤◌, ◌++◌, [], None, false, true, length, take, IfOk, IfErr, IsOk, OnOk, OnErr};
+ghost use Rattle.std.specs.Prelude.{◌≡◌, ◌≢◌, ◌+◌, ◌-◌, ◌≤◌, ◌++◌, [], None, Some, false, true, length, take, IfOk, IfErr, IsOk, OnOk, OnErr};
 ghost use Rattle.std.specs.Io.KnownBytes.{append_known};
 ghost use Rattle.std.specs.Io.{ReadsAtMost};
-ghost use Rattle.file_medium.specs.Files.{CutsTo, ReadsAt, cut_known};
+ghost use Rattle.file_medium.specs.Files.{CutsTo, KeepsFront, LowersTo, ReadsAt, cut_known};
 ghost use Rattle.sealed_text.specs.Seals.{IsBatch, end_batch, sealed_batch};
-ghost use Rattle.sealed_log.specs.Sealed.{Opens, Refuses, IsLengthOf, IsOpen, sealed_open};
+ghost use Rattle.sealed_log.specs.Sealed.{Opens, Refuses, IsLengthOf, IsOpen, IsUntouched, KeepsAll, LosesNothing, SparesClosed, sealed_open};
 
 use crate::adding::{add_piece, add_sealed, are_lines};
 use crate::fault::SealFault;
@@ -30,8 +30,9 @@ use std::marker::Model;
 ///
 /// The records that were there at the opening are kept in memory until a read has come to their end;
 /// from there on only the open batch can be read, and a read in front of it fails. Contracts see the
-/// records, those that are safe, how many bytes of them are closed, the open batch, whether a call of
-/// the file has failed, whether the world was ended, and what the file holds and what of it is safe.
+/// records, those that are safe, how many bytes of them are closed, and were at the opening, the open
+/// batch, whether a call of the file has failed, whether the world was ended, and what the file holds,
+/// what of it is safe, and what its cuts have left. No call cuts the file once it was opened.
 /// Costs memory for the greatest batch, and until they were read for the records. Source: this
 /// project.
 #[derive(Drop)]
@@ -42,6 +43,8 @@ pub struct SealedLog<F: LogFile> {
     records: Vec<u8>,
     // How many bytes of records are closed.
     closed: u64,
+    // How many were closed when it was opened: no cut leaves fewer.
+    opened: u64,
     batch: Vec<u8>,
     is_lost: bool,
     is_ended: bool,
@@ -54,46 +57,64 @@ impl<F: LogFile> Model for SealedLog<F> {
     ghost Value = { SealedBatches };
 
     ghost view = { λ l. log_of l.closed l.is_lost l.is_ended (F.bytes l.file) (F.safe l.file)
-        l.batch.items };
+        l.batch.items l.opened (F.least l.file) };
 
     ghost invariant = { λ l. IsSealed l.closed l.is_lost l.is_ended (F.bytes l.file)
-        (F.safe l.file) l.records.items l.batch.items (vec_capacity l.batch) };
+        (F.safe l.file) l.records.items l.batch.items (vec_capacity l.batch) l.opened };
 }
 
-impl<F: LogFile + Drop> SealedLog<F> {
+impl<F: LogFile> SealedLog<F> {
     /// The log in a file of closed batches. The file is synced first, so that all of it is safe, and
     /// read whole; what a stop has left behind the closed batches is cut off, and that is synced too.
     ///
     /// The faults: `Damaged`, where the file holds what was neither written so nor left so by a stop,
     /// with the line at which that begins; `Ended`, where the world was ended; `Device`, where a call
-    /// of the file failed; `NoMemory`, where memory is wanting. Each lets go of the file, and takes
-    /// nothing of it that a sum closes. Costs one or two syncs, a read of the file, two passes over
-    /// it, and memory for the file twice, of which that for the records is kept.
-    pub fn open(alloc: Global, file: F) -> Result<SealedLog<F>, SealFault>
+    /// of the file failed; `NoMemory`, where memory is wanting. With each the file is handed back. At
+    /// no moment is anything of it taken that a sum closes; where no call of it failed nothing is
+    /// taken of it or added to it, and all of it is safe. Costs one or two syncs, a read of the file,
+    /// two passes over it, and memory for the file twice, of which that for the records is kept.
+    pub fn open(alloc: Global, file: F) -> Result<SealedLog<F>, (SealFault, F)>
         ensures opens { IfOk result (Opens (F.bytes file)) }
         ensures safe { IfOk result (λ log. log.safe ≡ log.bytes) }
         ensures file_safe { IfOk result (λ log. log.file_safe ≡ log.file) }
         ensures closed { IfOk result (λ log. IsLengthOf log.bytes log.closed) }
+        ensures opened { IfOk result (λ log. log.opened ≡ log.closed) }
         ensures batch { IfOk result (λ log. log.batch ≡ []) }
         ensures sound { IfOk result (λ log. log.is_lost ≡ false) }
         ensures going_on { IfOk result (λ log. log.is_ended ≡ false) }
-        ensures err { IfErr result (Refuses (F.bytes file)) }
+        ensures loses { IfOk result (λ log. LosesNothing (F.bytes file) (F.safe file)
+            log.file_safe) }
+        ensures keeps { IfOk result (λ log. KeepsAll (F.safe file) log.file_safe) }
+        ensures spares { IfOk result (λ log. SparesClosed (F.bytes file) (F.least file)
+            log.file_least) }
+        ensures err { IfErr result (λ refused. Refuses (F.bytes file) refused.0) }
+        ensures kept { IfErr result (λ refused. LosesNothing (F.bytes file) (F.safe file)
+            (F.safe refused.1)) }
+        ensures safe_still { IfErr result (λ refused. KeepsAll (F.safe file) (F.safe refused.1)) }
+        ensures spared { IfErr result (λ refused. SparesClosed (F.bytes file) (F.least file)
+            (F.least refused.1)) }
+        ensures untouched { IfErr result (λ refused. refused.0 ≢ SealFault.Device
+            → IsUntouched (F.bytes file) (F.least file) (F.bytes refused.1) (F.safe refused.1)
+            (F.least refused.1)) }
     {
         let mut file = file;
-        let records = read_closed(alloc, &mut file)?.records;
+        let records = match read_closed(alloc, &mut file) {
+            Ok(unsealed) => unsealed.records,
+            Err(fault) => return Err((fault, file)),
+        };
+        let closed = records.len() as u64;
         Ok(SealedLog {
             alloc,
             file,
-            closed: records.len() as u64,
+            closed,
+            opened: closed,
             records,
             batch: Vec::new(alloc),
             is_lost: false,
             is_ended: false,
         })
     }
-}
 
-impl<F: LogFile> SealedLog<F> {
     /// Ends the world: writes the batch that tells so, with its sum, and syncs the file. From there on
     /// each call fails but a read, and no opening takes the file any more. Fails where a batch is
     /// open, where memory is wanting, where a call of the file has failed, or the world was ended
@@ -110,6 +131,8 @@ impl<F: LogFile> SealedLog<F> {
         ensures once { OnOk result (self.old.is_ended ≡ false) }
         ensures safe { OnErr result (self.new.safe ≡ self.old.safe) }
         ensures file_safe { OnErr result (self.new.file_safe ≡ self.old.file_safe) }
+        ensures opened { self.new.opened ≡ self.old.opened }
+        ensures file_least { self.new.file_least ≡ self.old.file_least }
         ensures err { OnErr result (self.new.is_lost ≡ false → self.new ≡ self.old) }
         ensures lost { self.old.is_lost ≡ true → self.new ≡ self.old }
     {
@@ -136,6 +159,7 @@ impl<F: LogFile> SealedLog<F> {
     pub fn file(&self) -> &F
         ensures bytes { F.bytes result.now ≡ self.now.file }
         ensures safe { F.safe result.now ≡ self.now.file_safe }
+        ensures least { F.least result.now ≡ self.now.file_least }
     {
         &self.file
     }
@@ -145,6 +169,8 @@ impl<F: LogFile> LogFile for SealedLog<F> {
     ghost bytes = { λ l. l.bytes };
 
     ghost safe = { λ l. l.safe };
+
+    ghost least = { λ l. Some l.opened };
 
     fn read_at(&mut self, at: u64, buffer: &mut [u8]) -> Result<usize, FileFailed>
         ensures bound { ReadsAtMost result buffer.new }
@@ -196,6 +222,7 @@ impl<F: LogFile> LogFile for SealedLog<F> {
           batch = take (kept - self.old.closed) self.old.batch;
         }) }
         ensures safe { CutsTo kept self.old.safe self.new.safe result }
+        ensures least { LowersTo kept (Some self.old.opened) (Some self.new.opened) result }
         ensures behind { OnOk result (self.old.closed ≤ kept) }
         ensures lines { OnOk result (IsOpen self.new.batch) }
         ensures sound { OnOk result (self.old.is_lost ≡ false) }
@@ -232,6 +259,9 @@ impl<F: LogFile> LogFile for SealedLog<F> {
         ensures going_on { OnOk result (self.old.is_ended ≡ false) }
         ensures safe { OnErr result (self.new.safe ≡ self.old.safe) }
         ensures file_safe { OnErr result (self.new.file_safe ≡ self.old.file_safe) }
+        ensures kept { KeepsFront self.old.safe self.new.safe }
+        ensures opened { self.new.opened ≡ self.old.opened }
+        ensures file_least { self.new.file_least ≡ self.old.file_least }
         ensures err { OnErr result (self.new.is_lost ≡ false → self.new ≡ self.old) }
         ensures lost { self.old.is_lost ≡ true → self.new ≡ self.old }
     {

@@ -74,7 +74,7 @@ fn two_batches(log: &mut SealedLog<MemoryFile>) -> [bool; 11] {
 #[test]
 fn a_sync_closes_a_batch(rt: HostRuntime) {
     let file = file_of(&rt, rt.alloc(), b"");
-    let mut log = SealedLog::open(rt.alloc(), file).expect(&rt, "opened");
+    let mut log = SealedLog::open(rt.alloc(), file).ok().expect(&rt, "opened");
     assert_eq!(rt; two_batches(&mut log), [true; 11]);
 }
 
@@ -82,7 +82,7 @@ fn a_sync_closes_a_batch(rt: HostRuntime) {
 fn a_short_write_is_gone_on_with(rt: HostRuntime) {
     let mut file = file_of(&rt, rt.alloc(), b"");
     file.limit_writes(5);
-    let mut log = SealedLog::open(rt.alloc(), file).expect(&rt, "opened");
+    let mut log = SealedLog::open(rt.alloc(), file).ok().expect(&rt, "opened");
     assert_eq!(rt; two_batches(&mut log), [true; 11]);
 }
 
@@ -101,7 +101,7 @@ fn first_of_two(log: &mut SealedLog<MemoryFile>) -> [bool; 6] {
 #[test]
 fn a_batch_costs_one_write(rt: HostRuntime) {
     let file = failing(&rt, rt.alloc(), ONE, FileCall::Write, 1);
-    let mut log = SealedLog::open(rt.alloc(), file).expect(&rt, "opened");
+    let mut log = SealedLog::open(rt.alloc(), file).ok().expect(&rt, "opened");
     assert_eq!(rt; first_of_two(&mut log), [true; 6]);
 }
 
@@ -128,7 +128,10 @@ fn what_a_stop_leaves_is_cut_off(rt: HostRuntime) {
 
 /// What an opening of a file gives, where it isn't opened.
 fn fault_of(alloc: Global, file: MemoryFile) -> Option<SealFault> {
-    SealedLog::open(alloc, file).err()
+    match SealedLog::open(alloc, file) {
+        Ok(_) => None,
+        Err((fault, _)) => Some(fault),
+    }
 }
 
 #[test]
@@ -183,7 +186,7 @@ fn refusals(log: &mut SealedLog<MemoryFile>) -> [bool; 9] {
 #[test]
 fn other_bytes_are_refused(rt: HostRuntime) {
     let file = file_of(&rt, rt.alloc(), b"");
-    let mut log = SealedLog::open(rt.alloc(), file).expect(&rt, "opened");
+    let mut log = SealedLog::open(rt.alloc(), file).ok().expect(&rt, "opened");
     assert_eq!(rt; refusals(&mut log), [true; 9]);
 }
 
@@ -203,7 +206,7 @@ fn closing_an_end(log: &mut SealedLog<MemoryFile>) -> [bool; 7] {
 #[test]
 fn no_sync_ends_a_world(rt: HostRuntime) {
     let file = file_of(&rt, rt.alloc(), b"");
-    let mut log = SealedLog::open(rt.alloc(), file).expect(&rt, "opened");
+    let mut log = SealedLog::open(rt.alloc(), file).ok().expect(&rt, "opened");
     assert_eq!(rt; closing_an_end(&mut log), [true; 7]);
 }
 
@@ -265,7 +268,7 @@ fn reading(log: &mut SealedLog<MemoryFile>) -> [bool; 7] {
 #[test]
 fn closed_records_are_read_once(rt: HostRuntime) {
     let file = file_of(&rt, rt.alloc(), ONE);
-    let mut log = SealedLog::open(rt.alloc(), file).expect(&rt, "opened");
+    let mut log = SealedLog::open(rt.alloc(), file).ok().expect(&rt, "opened");
     assert_eq!(rt; reading(&mut log), [true; 7]);
 }
 
@@ -287,7 +290,7 @@ fn lost(log: &mut SealedLog<MemoryFile>) -> [bool; 9] {
 #[test]
 fn a_write_that_fails_is_never_forgotten(rt: HostRuntime) {
     let file = failing(&rt, rt.alloc(), ONE, FileCall::Write, 0);
-    let mut log = SealedLog::open(rt.alloc(), file).expect(&rt, "opened");
+    let mut log = SealedLog::open(rt.alloc(), file).ok().expect(&rt, "opened");
     assert_eq!(rt; lost(&mut log), [true; 9]);
     assert!(rt; log.file().bytes() == ONE);
 }
@@ -295,7 +298,7 @@ fn a_write_that_fails_is_never_forgotten(rt: HostRuntime) {
 #[test]
 fn a_sync_that_fails_is_never_forgotten(rt: HostRuntime) {
     let file = failing(&rt, rt.alloc(), ONE, FileCall::Sync, 1);
-    let mut log = SealedLog::open(rt.alloc(), file).expect(&rt, "opened");
+    let mut log = SealedLog::open(rt.alloc(), file).ok().expect(&rt, "opened");
     assert_eq!(rt; lost(&mut log), [true; 9]);
     assert!(rt; log.file().bytes() == ONE_AND_TWO);
 }
@@ -304,7 +307,7 @@ fn a_sync_that_fails_is_never_forgotten(rt: HostRuntime) {
 fn a_full_file_is_never_forgotten(rt: HostRuntime) {
     let mut file = file_of(&rt, rt.alloc(), ONE);
     file.limit_length(32);
-    let mut log = SealedLog::open(rt.alloc(), file).expect(&rt, "opened");
+    let mut log = SealedLog::open(rt.alloc(), file).ok().expect(&rt, "opened");
     assert_eq!(rt; lost(&mut log), [true; 9]);
     assert!(rt; log.file().bytes() == &ONE_AND_TWO[..32]);
 }
@@ -327,7 +330,7 @@ fn ending(log: &mut SealedLog<MemoryFile>) -> [bool; 9] {
 #[test]
 fn an_end_closes_the_world(rt: HostRuntime) {
     let file = file_of(&rt, rt.alloc(), ONE);
-    let mut log = SealedLog::open(rt.alloc(), file).expect(&rt, "opened");
+    let mut log = SealedLog::open(rt.alloc(), file).ok().expect(&rt, "opened");
     assert_eq!(rt; ending(&mut log), [true; 9]);
 }
 
@@ -344,9 +347,111 @@ fn lost_end(log: &mut SealedLog<MemoryFile>) -> [bool; 4] {
 #[test]
 fn an_end_that_fails_is_never_forgotten(rt: HostRuntime) {
     let unwritten = failing(&rt, rt.alloc(), ONE, FileCall::Write, 0);
-    let mut log = SealedLog::open(rt.alloc(), unwritten).expect(&rt, "opened");
+    let mut log = SealedLog::open(rt.alloc(), unwritten)
+        .ok()
+        .expect(&rt, "opened");
     assert_eq!(rt; lost_end(&mut log), [true; 4]);
     let unsynced = failing(&rt, rt.alloc(), ONE, FileCall::Sync, 1);
-    let mut log = SealedLog::open(rt.alloc(), unsynced).expect(&rt, "opened");
+    let mut log = SealedLog::open(rt.alloc(), unsynced)
+        .ok()
+        .expect(&rt, "opened");
     assert_eq!(rt; lost_end(&mut log), [true; 4]);
+}
+
+// A closed batch, and a torn one of 5 bytes behind it.
+const TORN: &[u8] = b"R 1\nsum 000000ad00000214\nR 2\nR";
+
+// A closed batch, and one of another sum behind it.
+const DAMAGED: &[u8] = b"R 1\nsum 000000ad00000214\nR 2\nsum 000000ae00000217\n";
+
+/// The bytes of a file that aren't safe, behind a closed batch of 25 bytes that is; the call of the
+/// opening that fails, and how many of its kind go well before it; and what the opening gives, what
+/// the file holds that is handed back, and what of it is safe.
+type Refused = (
+    &'static [u8],
+    FileCall,
+    u64,
+    SealFault,
+    &'static [u8],
+    &'static [u8],
+);
+
+const REFUSED: [Refused; 11] = [
+    (b"R 2\nR", FileCall::Sync, 0, SealFault::Device, TORN, ONE),
+    (b"R 2\nR", FileCall::Read, 0, SealFault::Device, TORN, TORN),
+    (b"R 2\nR", FileCall::Read, 1, SealFault::Device, TORN, TORN),
+    (b"R 2\nR", FileCall::Cut, 0, SealFault::Device, TORN, TORN),
+    (b"R 2\nR", FileCall::Sync, 1, SealFault::Device, ONE, ONE),
+    (
+        b"R 2\nsum 000000ae00000216\n",
+        FileCall::Sync,
+        0,
+        SealFault::Device,
+        ONE_AND_TWO,
+        ONE,
+    ),
+    (
+        b"R 2\nsum 000000ae00000216\n",
+        FileCall::Read,
+        1,
+        SealFault::Device,
+        ONE_AND_TWO,
+        ONE_AND_TWO,
+    ),
+    (
+        b"R 2\nsum 000000ae00000217\n",
+        FileCall::Sync,
+        0,
+        SealFault::Device,
+        DAMAGED,
+        ONE,
+    ),
+    (
+        b"R 2\nsum 000000ae00000217\n",
+        FileCall::Cut,
+        0,
+        SealFault::Damaged { line: 3 },
+        DAMAGED,
+        DAMAGED,
+    ),
+    (
+        b"X\nsum 00000062000000ba\n",
+        FileCall::Read,
+        0,
+        SealFault::Device,
+        ENDED,
+        ENDED,
+    ),
+    (
+        b"X\nsum 00000062000000ba\n",
+        FileCall::Cut,
+        0,
+        SealFault::Ended,
+        ENDED,
+        ENDED,
+    ),
+];
+
+/// A file of a closed batch, which is safe, and of these bytes behind it, which aren't.
+fn half_safe(rt: &impl Abort, alloc: Global, behind: &[u8]) -> MemoryFile {
+    let mut file = file_of(rt, alloc, ONE);
+    assert!(rt; file.sync() == Ok(()));
+    assert!(rt; file.write(behind) == Ok(behind.len()));
+    file
+}
+
+#[test]
+fn a_file_that_is_refused_is_handed_back(rt: HostRuntime) {
+    for row in &REFUSED {
+        let (behind, call, good, wanted, bytes, safe) = *row;
+        let mut file = half_safe(&rt, rt.alloc(), behind);
+        file.arm(FileMishap { call, good });
+        let (fault, back) = SealedLog::open(rt.alloc(), file)
+            .err()
+            .expect(&rt, "a fault");
+        assert!(&rt; fault == wanted);
+        assert!(&rt; back.bytes() == bytes);
+        assert!(&rt; back.safe() == safe);
+        assert!(&rt; back.least() == 25);
+    }
 }

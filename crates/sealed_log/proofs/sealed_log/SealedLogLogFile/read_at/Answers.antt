@@ -15,7 +15,7 @@ returns-then-at-self-clause-read g c =
     let reads = subst (λ b. ReadsAt (Some b) (c.args.at - l.closed) n buffer) c.deref.ensures.value c.copy_behind.ensures.read in
     subst (λ v. ReadsAt v.bytes c.args.at n buffer) c.self.view_is
     (read-open l.closed c.args.at n l.is_ended file l.batch.items buffer
-    (file-closed l.closed l.is_lost l.is_ended file (g.F.LogFile.safe l.file) l.records.items l.batch.items _ c.self.invariant c.if-self.false)
+    (file-closed l.closed l.is_lost l.is_ended file (g.F.LogFile.safe l.file) l.records.items l.batch.items _ _ c.self.invariant c.if-self.false)
     (omega arith) reads)
 
 pub returns-then-at-count-clause-read : goal.returns-then-at-count-clause-read
