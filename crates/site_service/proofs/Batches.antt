@@ -1,6 +1,7 @@
 -- What was written when a batch is let out, and where the serving ends.
-use Rattle.std.proofs.Common.{◌≡◌, ℕ, List, [], ◌++◌, ◌+◌, ◌⊎◌, Option, Result, length, take, refl, sym, ap, ◌∙◌, subst, inl, inr, append_assoc, append-nil}
+use Rattle.std.proofs.Common.{◌≡◌, ◌<◌, ◌≤◌, ℕ, List, [], ◌++◌, ◌+◌, ◌⊎◌, Option, Result, length, take, refl, sym, ap, ◌∙◌, subst, inl, inr, append_assoc, append-nil, arith}
 use Rattle.std.proofs.Math.Seq.{take-append-add}
+use Rattle.std.proofs.lemmas.List.{length-append}
 use Rattle.std.specs.Io.KnownBytes.{Appends, Consumes, Keeps}
 use Rattle.std.proofs.KnownBytes.{Appends-trans, Consumes-nil, Consumes-trans, Consumes-kept}
 use Rattle.script_input.specs.Lines.{whole_lines, last_part, whole_lines_after, last_part_after}
@@ -11,14 +12,14 @@ use Rattle.site_service.specs.declared.fault.ServeFault.{ServeFault}
 use Rattle.site_service.specs.declared.fault.ServeFault.TheVariants as faults
 use Rattle.site_service.specs.Answers.{AnswersLines}
 use Rattle.site_service.specs.Service.{ServiceValue, IsSettled, KeepsLog, HasAnsweredAll, LetsOut, HoldsBack}
-use Rattle.site_service.specs.Serving.{IsKeptOf, Serves, ServesPart, Stops, StopsAtOnce, IsOutAt, reads_failed, CountsReads, CountsWrites}
+use Rattle.site_service.specs.Serving.{IsKeptOf, Serves, ServesPart, Stops, StopsAtOnce, IsOutAt, IsLongAt, reads_failed, CountsReads, CountsWrites}
 use Rattle.site_service.specs.Traces.{TraceValue, HasTold, HasKept}
 use Rattle.site_service.proofs.Lines.{answers_after}
 use Rattle.site_service.proofs.Tracing.{told_none, told_more, kept_of, kept_front}
 
 -- what waited at first is let out, and nothing was read
 pub serves_none : (from before after : Option (List ℕ)) (trace : TraceValue) (start now : ServiceValue) → now.served ≡ start.served
-    → LetsOut before after start now → ServesPart from from before after trace trace start now []
+    → LetsOut before after start now → ServesPart from from before after trace trace start now [] 0
 serves_none from before after trace start now same out = record {
   serves = record {
     read = [];
@@ -31,6 +32,7 @@ serves_none from before after trace start now same out = record {
     told = told_none trace;
   };
   kept = inl refl;
+  some = omega arith;
 }
 
 -- what was let out couldn't be written whole
@@ -40,13 +42,13 @@ stops_first from before after trace start now same settled front = record {
   front = [];
   back = [];
   consumed = Consumes-nil from;
-  last = now;
+  last = now.served;
   text = [];
   answers = (same, refl);
   out = subst (AppendsPrefix before after) (sym (append-nil start.waiting)) front;
-  settled = settled;
   safe = settled.safe;
   told = kept_of trace trace [] (told_none trace);
+  long = tt;
 }
 
 -- a front of what is known and of what is written after it
@@ -60,46 +62,47 @@ prefix_after before middle after written out wrote front = (
 
 -- A fault in front of which all batches were let out: what was read since is the back.
 pub stops_behind : (from mid to before after : Option (List ℕ)) (trace half traced : TraceValue) (start now later : ServiceValue)
-    (line piece : List ℕ) (part : ServesPart from mid before after trace half start now line) → Consumes mid to piece
-    → later.safe ≡ now.safe → HasKept trace traced part.serves.text → (fault : ServeFault) → IsOutAt fault before after (start.waiting ++ part.serves.text)
+    (line piece : List ℕ) (reads : ℕ) (part : ServesPart from mid before after trace half start now line reads) → Consumes mid to piece
+    → later.safe ≡ now.safe → HasKept trace traced part.serves.text → (fault : ServeFault)
+    → IsOutAt fault before after (start.waiting ++ part.serves.text) → IsLongAt fault part.serves.read
     → Stops from to before after trace traced start later fault
-stops_behind from mid to before after trace half traced start now later line piece part more same told fault out =
+stops_behind from mid to before after trace half traced start now later line piece reads part more same told fault out long =
     let s = part.serves in record {
       front = s.read;
       back = piece;
       consumed = Consumes-trans from mid to s.read piece s.consumed more;
-      last = now;
+      last = now.served;
       text = s.text;
       answers = s.answers;
       out = out;
-      settled = s.settled;
       safe = subst (λ (k : Option (List ℕ)). IsCopyOf k now.served.site.bytes) (sym same) s.settled.safe;
       told = told;
+      long = long;
     }
 
 -- no byte was read since
 pub stops_kept : (from mid to before after : Option (List ℕ)) (trace traced : TraceValue) (start now : ServiceValue) (line : List ℕ)
-    → ServesPart from mid before after trace traced start now line → Keeps mid to
+    (reads : ℕ) → ServesPart from mid before after trace traced start now line reads → Keeps mid to
     → Stops from to before after trace traced start now faults.Read
-stops_kept from mid to before after trace traced start now line part keeps =
+stops_kept from mid to before after trace traced start now line reads part keeps =
     let s = part.serves in record {
       front = s.read;
       back = [];
       consumed = subst (Consumes from to) (sym (append-nil s.read)) (Consumes-kept from mid to s.read s.consumed keeps);
-      last = now;
+      last = now.served;
       text = s.text;
       answers = s.answers;
       out = s.written;
-      settled = s.settled;
       safe = s.settled.safe;
       told = kept_of trace traced s.text s.told;
+      long = tt;
     }
 
 -- the end of the input
 pub serves_all : (from mid to before after : Option (List ℕ)) (trace traced : TraceValue) (start now : ServiceValue) (line : List ℕ)
-    → ServesPart from mid before after trace traced start now line → Consumes mid to []
+    (reads : ℕ) → ServesPart from mid before after trace traced start now line reads → Consumes mid to []
     → Serves from to before after trace traced start now
-serves_all from mid to before after trace traced start now line part none =
+serves_all from mid to before after trace traced start now line reads part none =
     let s = part.serves in record {
       read = s.read;
       consumed = subst (Consumes from to) (append-nil s.read) (Consumes-trans from mid to s.read [] s.consumed none);
@@ -114,7 +117,7 @@ serves_all from mid to before after trace traced start now line part none =
 -- ---- a batch
 
 module _ (from mid to before half after : Option (List ℕ)) (trace earlier traced : TraceValue) (start now answered : ServiceValue)
-    (line piece : List ℕ) (part : ServesPart from mid before half trace earlier start now line) (more : Consumes mid to piece)
+    (line piece : List ℕ) (reads : ℕ) (part : ServesPart from mid before half trace earlier start now line reads) (more : Consumes mid to piece)
     (all : HasAnsweredAll (whole_lines_after (last_part part.serves.read) piece) now answered)
     (told : HasTold earlier traced answered.waiting) where
   lines_read : whole_lines (part.serves.read ++ piece) ≡ whole_lines part.serves.read ++ whole_lines_after (last_part part.serves.read) piece
@@ -139,9 +142,10 @@ module _ (from mid to before half after : Option (List ℕ)) (trace earlier trac
   texts = ap (λ (t : List ℕ). (start.waiting ++ part.serves.text) ++ t) waits ∙ append_assoc start.waiting part.serves.text all.text
 
   -- it is let out
-  pub serves_batch : (later : ServiceValue) (left : List ℕ) → later.served ≡ answered.served → LetsOut half after answered later
-      → IsKeptOf (last_part_after (last_part part.serves.read) piece) left → ServesPart from to before after trace traced start later left
-  serves_batch later left same out keeps = record {
+  pub serves_batch : 0 < length piece → (later : ServiceValue) (left : List ℕ) → later.served ≡ answered.served → LetsOut half after answered later
+      → IsKeptOf (last_part_after (last_part part.serves.read) piece) left
+      → ServesPart from to before after trace traced start later left (reads + 1)
+  serves_batch brought later left same out keeps = record {
     serves = record {
       read = part.serves.read ++ piece;
       consumed = Consumes-trans from mid to part.serves.read piece part.serves.consumed more;
@@ -155,6 +159,7 @@ module _ (from mid to before half after : Option (List ℕ)) (trace earlier trac
       told = told_batch;
     };
     kept = subst (λ (p : List ℕ). IsKeptOf p left) (sym (last_part_after-append [] part.serves.read piece)) keeps;
+    some = omega (arith, brought, part.some, length-append part.serves.read piece);
   }
 
   -- a front of it is written
@@ -165,47 +170,47 @@ module _ (from mid to before half after : Option (List ℕ)) (trace earlier trac
     back = [];
     consumed = subst (Consumes from to) (sym (append-nil (part.serves.read ++ piece)))
         (Consumes-trans from mid to part.serves.read piece part.serves.consumed more);
-    last = later;
+    last = later.served;
     text = part.serves.text ++ all.text;
     answers = subst (λ s. AnswersLines start.served (whole_lines (part.serves.read ++ piece)) s (part.serves.text ++ all.text)) (sym same)
         answers_read;
     out = subst (AppendsPrefix before after) texts
         (prefix_after before half after (start.waiting ++ part.serves.text) answered.waiting part.serves.written front);
-    settled = settled;
     safe = settled.safe;
     told = kept_of trace traced (part.serves.text ++ all.text) told_batch;
+    long = tt;
   }
 
   -- the log failed behind the trace
   pub stops_device : (later : ServiceValue) → later.safe ≡ now.safe → half ≡ after → Stops from to before after trace traced start later faults.Device
   stops_device later same unwritten =
       subst (λ (w : Option (List ℕ)). Stops from to before w trace traced start later faults.Device) unwritten
-      (stops_behind from mid to before half trace earlier traced start now later line piece part more same
-      (kept_front trace traced part.serves.text all.text told_batch) faults.Device part.serves.written)
+      (stops_behind from mid to before half trace earlier traced start now later line piece reads part more same
+      (kept_front trace traced part.serves.text all.text told_batch) faults.Device part.serves.written tt)
 
 -- ---- a fault of a release
 
 -- in the middle of a serving
 pub stops_release : (from mid to before half after : Option (List ℕ)) (trace earlier traced : TraceValue) (start now answered later : ServiceValue)
-    (line piece : List ℕ) (part : ServesPart from mid before half trace earlier start now line) → Consumes mid to piece
+    (line piece : List ℕ) (reads : ℕ) (part : ServesPart from mid before half trace earlier start now line reads) → Consumes mid to piece
     → HasAnsweredAll (whole_lines_after (last_part part.serves.read) piece) now answered → HasTold earlier traced answered.waiting
     → KeepsLog now answered → later.served ≡ answered.served → (fault : ServeFault) → HoldsBack half after answered later fault
     → Stops from to before after trace traced start later fault
-stops_release from mid to before half after trace earlier traced start now answered later line piece part more all told keeps same faults.Device held =
-    stops_device from mid to before half after trace earlier traced start now answered line piece part more all told later
+stops_release from mid to before half after trace earlier traced start now answered later line piece reads part more all told keeps same faults.Device held =
+    stops_device from mid to before half after trace earlier traced start now answered line piece reads part more all told later
     (held.2 ∙ keeps.safe) (sym held.0)
-stops_release from mid to before half after trace earlier traced start now answered later line piece part more all told keeps same faults.Write held =
-    stops_batch from mid to before half after trace earlier traced start now answered line piece part more all told later same held.0 held.1
-stops_release from mid to before half after trace earlier traced start now answered later line piece part more all told keeps same faults.Read held = absurd held
-stops_release from mid to before half after trace earlier traced start now answered later line piece part more all told keeps same faults.TooLong held = absurd held
-stops_release from mid to before half after trace earlier traced start now answered later line piece part more all told keeps same faults.NoMemory held = absurd held
+stops_release from mid to before half after trace earlier traced start now answered later line piece reads part more all told keeps same faults.Write held =
+    stops_batch from mid to before half after trace earlier traced start now answered line piece reads part more all told later same held.0 held.1
+stops_release from mid to before half after trace earlier traced start now answered later line piece reads part more all told keeps same faults.Read held = absurd held
+stops_release from mid to before half after trace earlier traced start now answered later line piece reads part more all told keeps same faults.TooLong held = absurd held
+stops_release from mid to before half after trace earlier traced start now answered later line piece reads part more all told keeps same faults.NoMemory held = absurd held
 
 -- before the first read
 pub stops_at_first : (from before after : Option (List ℕ)) (trace : TraceValue) (start now : ServiceValue) → now.served ≡ start.served
     → (fault : ServeFault) → HoldsBack before after start now fault
-    → StopsAtOnce from from before after trace trace fault ⊎ Stops from from before after trace trace start now fault
+    → StopsAtOnce from from before after trace trace start now fault ⊎ Stops from from before after trace trace start now fault
 stops_at_first from before after trace start now same faults.Device held =
-    inl (record { device = refl; unread = refl; unwritten = held.0; untold = refl })
+    inl (record { device = refl; unread = refl; unwritten = held.0; untold = refl; safe = held.2 })
 stops_at_first from before after trace start now same faults.Write held =
     inr (stops_first from before after trace start now same held.0 held.1)
 stops_at_first from before after trace start now same faults.Read held = absurd held

@@ -4,6 +4,7 @@ pub mod Ends
 pub mod Index
 pub mod Rising
 pub mod Links
+pub mod Starts
 pub mod Questions
 pub mod Told
 pub mod Lines

@@ -41,12 +41,13 @@ answered_more old mid new lines line all one = record {
 }
 
 pub keeps_same : (v : ServiceValue) → KeepsLog v v
-keeps_same v = record { log = refl; safe = refl; settled = refl; lost = refl }
+keeps_same v = record { log = refl; safe = refl; least = refl; settled = refl; lost = refl }
 
 pub keeps_on : (old mid new : ServiceValue) → KeepsLog old mid → KeepsLog mid new → KeepsLog old new
 keeps_on old mid new first second = record {
   log = second.log ∙ first.log;
   safe = second.safe ∙ first.safe;
+  least = second.least ∙ first.least;
   settled = second.settled ∙ first.settled;
   lost = second.lost ∙ first.lost;
 }

@@ -47,18 +47,19 @@ pub record ToldKept (old : SiteValue) (line : List ℕ) (new : SiteValue) (text 
 
 -- ---- a line that asks nothing
 
--- The line has no more than 256 bytes, and is the text neither of a command nor of a question for a commit.
+-- The line has no more than 256 bytes, and is the text neither of a command of a site of the schema nor of a question for a commit.
 pub record AsksNothing (schema : SchemaValue) (line : List ℕ) : Type 0 where
   pub short : length line ≤ max_line
-  pub command : (site : SiteNo) (command : Command) → SiteFits site → CommandFits command → line ≢ command_text schema site command
+  pub command : (site : SiteNo) (command : Command) → site.0 < schema.sites → SiteFits site → CommandFits command
+      → line ≢ command_text schema site command
   pub question : (txn : TxnId) → IdFits txn → line ≢ kept_text txn
 
--- Why a line asks nothing of a site: it has more than 256 bytes; or it has no more, and is the text of a command of another
--- site, or neither of a command nor of a question for a commit, by what its words tell.
+-- Why a line asks nothing of a site: it has more than 256 bytes; or it has no more, and is the text of a command of another site of
+-- the schema, or neither of a command of such a site nor of a question for a commit, by what its words tell.
 abbrev pub IsBad : SchemaValue → SiteNo → List ℕ → BadLine → Type 0
 IsBad schema number line TooLong = max_line < length line
 IsBad schema number line OtherSite = (length line ≤ max_line)
-    × ((site : SiteNo) × (command : Command) × (site ≢ number) × (line ≡ command_text schema site command))
+    × ((site : SiteNo) × (command : Command) × (site.0 < schema.sites) × (site ≢ number) × (line ≡ command_text schema site command))
 IsBad schema number line UnknownWord = AsksNothing schema line × (fault_in schema (words line) ≡ UnknownWord)
 IsBad schema number line NoField = AsksNothing schema line × (fault_in schema (words line) ≡ NoField)
 IsBad schema number line NoCommand = AsksNothing schema line × (fault_in schema (words line) ≡ NoCommand)

@@ -1,5 +1,5 @@
 -- Over which log a service is opened, and what it finds there (this project).
-use Rattle.std.specs.Prelude.{◌≡◌, ℕ, List, [], ◌++◌, Option}
+use Rattle.std.specs.Prelude.{◌≡◌, ℕ, List, [], ◌++◌, length, ⊤, Option, None, Some}
 use Rattle.field_bounds.specs.Schema.{SchemaValue}
 use Rattle.field_bounds.specs.declared.id.SiteNo.{SiteNo}
 use Rattle.field_bounds.specs.declared.entry.Command.TheVariants.{Restart}
@@ -10,6 +10,7 @@ use Rattle.site_step.specs.Opening.{TellsLine, SparesLogs}
 use Rattle.site_step.specs.declared.site.opening.OpenFault.{OpenFault}
 use Rattle.site_step.specs.declared.site.opening.OpenFault.TheVariants.{Device, Line, NoMemory}
 use Rattle.file_medium.specs.Copies.{IsCopyOf}
+use Rattle.file_medium.specs.Files.{SparesFront}
 use Rattle.site_service.specs.Answers.{Answered}
 use Rattle.site_service.specs.Service.{ServiceValue, IsSettled}
 
@@ -26,16 +27,42 @@ pub record HoldsLines (known : Option (List ℕ)) (front : List ℕ) : Type 0 wh
   pub copy : IsCopyOf known bytes
   pub lines : AreLines bytes front torn
 
--- A service over the whole lines of a log: its site was opened over them and restarted once, the answer to that waits, no line was
--- answered, and all is settled.
+-- ---- what a start keeps of a log
+
+-- The safe bytes begin with these, as far as it is known.
+abbrev pub IsSafe : Option (List ℕ) → List ℕ → Type 0
+IsSafe None front = ⊤
+IsSafe (Some safe) front = (more : List ℕ) × (safe ≡ front ++ more)
+
+-- Each front of these lines that was safe still is.
+abbrev pub KeepsFronts : List ℕ → Option (List ℕ) → Option (List ℕ) → Type 0
+KeepsFronts lines was now = (front more : List ℕ) → lines ≡ front ++ more → IsSafe was front → IsSafe now front
+
+-- Of the whole lines that the file held, what was safe still is.
+abbrev pub KeepsLines : Option (List ℕ) → Option (List ℕ) → Option (List ℕ) → Type 0
+KeepsLines None was now = ⊤
+KeepsLines (Some bytes) was now = (lines torn : List ℕ) → AreLines bytes lines torn → KeepsFronts lines was now
+
+-- From the one moment to the other no cut went in front of the end of the whole lines that the file held.
+abbrev pub SparesLines : Option (List ℕ) → Option ℕ → Option ℕ → Type 0
+SparesLines None was now = ⊤
+SparesLines (Some bytes) was now = (lines torn : List ℕ) → AreLines bytes lines torn → SparesFront (length lines) was now
+
+-- ---- what it finds
+
+-- A service over a site that was opened: that was restarted once, the answer to it waits, no line was answered, and all is settled.
+pub record IsStarted (opened : SiteValue) (v : ServiceValue) : Type 0 where
+  pub restarted : Answered opened Restart v.served.site v.waiting
+  pub none : v.served.lines ≡ 0
+  pub settled : IsSettled v
+
+-- Such a service over the whole lines of a log.
 pub record IsOpened (schema : SchemaValue) (number : SiteNo) (known : Option (List ℕ)) (v : ServiceValue) : Type 0 where
   pub held : List ℕ
   pub lines : HoldsLines known held
   pub opened : SiteValue
   pub opens : Opens schema number held 0 opened
-  pub restarted : Answered opened Restart v.served.site v.waiting
-  pub none : v.served.lines ≡ 0
-  pub settled : IsSettled v
+  pub started : IsStarted opened v
 
 -- A line of the log is named only where it is the first bad one of its whole lines, which are then no lawful log.
 pub record NamesBadLine (schema : SchemaValue) (number : SiteNo) (known : Option (List ℕ)) (n : ℕ) : Type 0 where

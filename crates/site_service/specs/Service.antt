@@ -12,25 +12,27 @@ use Rattle.site_service.specs.declared.fault.ServeFault.{ServeFault}
 use Rattle.site_service.specs.declared.fault.ServeFault.TheVariants as faults
 use Rattle.site_service.specs.Answers.{Served, Answered, IsAnswer, AnswersLine, AnswersLines}
 
--- What the answers depend on; the text of the answers that wait to be let out; the bytes that the log's file holds, and those of
--- it that are safe, where they are known; how many of the medium's bytes are settled there; and whether a call of the file that
--- was to settle more has failed.
+-- What the answers depend on; the text of the answers that wait to be let out; the bytes that the log's file holds, those of it
+-- that are safe, and the fewest that a cut of it has left, where they are known; how many of the medium's bytes are settled there;
+-- and whether a call of the file that was to settle more has failed.
 pub record ServiceValue : Type 0 where
   pub served : Served
   pub waiting : List ℕ
   pub log : Option (List ℕ)
   pub safe : Option (List ℕ)
+  pub least : Option ℕ
   pub settled : ℕ
   pub lost : Bool
 
 -- A service's value, from its parts.
-abbrev pub value_of : SiteValue → ℕ → List ℕ → Option (List ℕ) → Option (List ℕ) → ℕ → Bool → ServiceValue
-value_of site lines waiting log safe settled lost =
+abbrev pub value_of : SiteValue → ℕ → List ℕ → Option (List ℕ) → Option (List ℕ) → Option ℕ → ℕ → Bool → ServiceValue
+value_of site lines waiting log safe least settled lost =
     record {
       served = record { site = site; lines = lines };
       waiting = waiting;
       log = log;
       safe = safe;
+      least = least;
       settled = settled;
       lost = lost;
     }
@@ -71,6 +73,7 @@ pub record IsSettled (v : ServiceValue) : Type 0 where
 pub record KeepsLog (old new : ServiceValue) : Type 0 where
   pub log : new.log ≡ old.log
   pub safe : new.safe ≡ old.safe
+  pub least : new.least ≡ old.least
   pub settled : new.settled ≡ old.settled
   pub lost : new.lost ≡ old.lost
 

@@ -1,5 +1,5 @@
 -- What a served site reads and lets out (this project).
-use Rattle.std.specs.Prelude.{◌≡◌, ◌⊎◌, ◌<◌, ℕ, Bool, true, false, List, [], ◌++◌, length, Option, Result, Ok, Err}
+use Rattle.std.specs.Prelude.{◌≡◌, ◌⊎◌, ◌<◌, ◌≤◌, ◌+◌, ◌-◌, ◌^◌, ℕ, Bool, true, false, List, [], ◌++◌, length, Option, Result, Ok, Err}
 use Rattle.std.specs.Io.KnownBytes.{Appends, Consumes, IsAtEnd}
 use Rattle.entry_text.specs.Lines.{max_line}
 use Rattle.script_input.specs.Lines.{whole_lines, last_part}
@@ -7,7 +7,7 @@ use Rattle.script_input.specs.Streams.{AppendsPrefix, one_more}
 use Rattle.file_medium.specs.Copies.{IsCopyOf}
 use Rattle.site_service.specs.declared.fault.ServeFault.{ServeFault}
 use Rattle.site_service.specs.declared.fault.ServeFault.TheVariants as faults
-use Rattle.site_service.specs.Answers.{AnswersLines}
+use Rattle.site_service.specs.Answers.{Served, AnswersLines}
 use Rattle.site_service.specs.Service.{ServiceValue, IsSettled}
 use Rattle.site_service.specs.Traces.{TraceValue, HasTold, HasKept}
 
@@ -27,17 +27,18 @@ pub record Serves (from to before after : Option (List ℕ)) (trace traced : Tra
   pub settled : IsSettled now
   pub told : HasTold trace traced text
 
--- The same between two reads: of the line that is being read so much is kept.
+-- The same between two reads, after so many: each has brought one byte at least, and of the line that is being read so much is kept.
 pub record ServesPart (from to before after : Option (List ℕ)) (trace traced : TraceValue) (start now : ServiceValue) (line : List ℕ)
-    : Type 0 where
+    (reads : ℕ) : Type 0 where
   pub serves : Serves from to before after trace traced start now
   pub kept : IsKeptOf (last_part serves.read) line
+  pub some : reads ≤ length serves.read
 
 -- The serving goes on, or the input has ended: a last line without a line feed is no line.
 abbrev pub ServesOn : Option (List ℕ) → Option (List ℕ) → Option (List ℕ) → Option (List ℕ) → TraceValue → TraceValue
-    → ServiceValue → ServiceValue → List ℕ → Bool → Type 0
-ServesOn from to before after trace traced start now line true = ServesPart from to before after trace traced start now line
-ServesOn from to before after trace traced start now line false = Serves from to before after trace traced start now × IsAtEnd to
+    → ServiceValue → ServiceValue → List ℕ → ℕ → Bool → Type 0
+ServesOn from to before after trace traced start now line reads true = ServesPart from to before after trace traced start now line reads
+ServesOn from to before after trace traced start now line reads false = Serves from to before after trace traced start now × IsAtEnd to
 
 -- What was written by the time of a fault, of this text: a front of it at a write fault, and else all.
 abbrev pub IsOutAt : ServeFault → Option (List ℕ) → Option (List ℕ) → List ℕ → Type 0
@@ -47,29 +48,40 @@ IsOutAt faults.Device before after text = Appends before after text
 IsOutAt faults.TooLong before after text = Appends before after text
 IsOutAt faults.NoMemory before after text = Appends before after text
 
+-- The input was too long only where 2^64 - 1 bytes were read: one at least by each of so many reads.
+abbrev pub IsLongAt : ServeFault → List ℕ → Type 0
+IsLongAt faults.TooLong read = 2 ^ 64 - 1 ≤ length read
+IsLongAt faults.Read read = Unit {0}
+IsLongAt faults.Write read = Unit {0}
+IsLongAt faults.Device read = Unit {0}
+IsLongAt faults.NoMemory read = Unit {0}
+
 -- A fault ends the serving. What was read is a front, whose batches were let out, and the rest: what was written is exactly what
 -- waited at first and the text of the answers to the whole lines of the front, at a write fault a front of that. The record of each
--- of these answers is safe: they were answered by a site whose bytes are all safe, then and still. The text of these answers is safe
--- in the trace, maybe with more behind it: so what is safe of the log is never ahead of the trace.
+-- of these answers is safe: what is safe of the log are exactly the bytes of the site that answered the last of them. The text of
+-- these answers is safe in the trace, maybe with more behind it: so what is safe of the log is never ahead of the trace.
 pub record Stops (from to before after : Option (List ℕ)) (trace traced : TraceValue) (start now : ServiceValue) (fault : ServeFault)
     : Type 0 where
   pub front : List ℕ
   pub back : List ℕ
   pub consumed : Consumes from to (front ++ back)
-  pub last : ServiceValue
+  pub last : Served
   pub text : List ℕ
-  pub answers : AnswersLines start.served (whole_lines front) last.served text
+  pub answers : AnswersLines start.served (whole_lines front) last text
   pub out : IsOutAt fault before after (start.waiting ++ text)
-  pub settled : IsSettled last
-  pub safe : IsCopyOf now.safe last.served.site.bytes
+  pub safe : IsCopyOf now.safe last.site.bytes
   pub told : HasKept trace traced text
+  pub long : IsLongAt fault front
 
--- What waited at first wasn't let out, since the log's file failed: nothing was read, nothing written, and nothing traced.
-pub record StopsAtOnce (from to before after : Option (List ℕ)) (trace traced : TraceValue) (fault : ServeFault) : Type 0 where
+-- What waited at first wasn't let out, since the log's file failed: nothing was read, nothing written, and nothing traced, and what
+-- was safe of the log still is.
+pub record StopsAtOnce (from to before after : Option (List ℕ)) (trace traced : TraceValue) (start now : ServiceValue) (fault : ServeFault)
+    : Type 0 where
   pub device : fault ≡ faults.Device
   pub unread : to ≡ from
   pub unwritten : after ≡ before
   pub untold : traced ≡ trace
+  pub safe : now.safe ≡ start.safe
 
 -- How many reads failed, after a call that this fault ends: one more at a read fault, and else as many.
 abbrev pub reads_failed : ServeFault → ℕ → ℕ

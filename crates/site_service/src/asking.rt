@@ -1,9 +1,12 @@
 //! What a line asks of a site.
 
 ghost use Rattle.std.specs.Prelude.{◌≡◌, ◌≢◌, ◌≤◌, ◌++◌, ℕ, List, length, codes, MatchOption, IfOk, IfErr, OnOk, IfSome, IfNone};
+ghost use Rattle.field_bounds.specs.declared.id.SiteNo.{SiteNo as Site};
 ghost use Rattle.field_bounds.specs.declared.id.TxnId.{TxnId as Txn};
+ghost use Rattle.field_bounds.specs.declared.entry.Command.{Command as CommandType};
 ghost use Rattle.entry_text.specs.Lines.{max_line};
-ghost use Rattle.entry_text.specs.Ranges.{IdFits};
+ghost use Rattle.entry_text.specs.Ranges.{SiteFits, CommandFits, IdFits};
+ghost use Rattle.entry_text.specs.Spelling.{command_text};
 ghost use Rattle.site_service.specs.Answers.{IsBad};
 ghost use Rattle.site_service.specs.Asking.{IsAsked};
 ghost use Rattle.site_service.specs.Kept.{kept_text};
@@ -44,6 +47,24 @@ fn asked_commit(line: &[u8]) -> Option<TxnId>
     }
 }
 
+// Why a line asks nothing that spells a command, but none of this site: it is another site's, or no
+// site's of the schema.
+fn fault_of_other(schema: &Schema, number: SiteNo, site: SiteNo, line: &[u8]) -> BadLine
+    requires short { length line.now ≤ max_line }
+    requires question { (txn : Txn) → IdFits txn → line.now ≢ kept_text txn }
+    requires other { site ≢ number }
+    requires spells { (command : CommandType) × (line.now ≡ command_text schema.now site command) }
+    requires only { (other : Site) (command : CommandType) → SiteFits other → CommandFits command
+        → line.now ≡ command_text schema.now other command → other ≡ site }
+    ensures { IsBad schema.now number line.now result }
+{
+    if site.0 < schema.sites() {
+        BadLine::OtherSite
+    } else {
+        fault_in(schema, line)
+    }
+}
+
 // The command that a line asks, where it has no more bytes than a line may have.
 fn asked_command(schema: &Schema, number: SiteNo, line: &[u8]) -> Result<Command, BadLine>
     requires short { length line.now ≤ max_line }
@@ -57,7 +78,7 @@ fn asked_command(schema: &Schema, number: SiteNo, line: &[u8]) -> Result<Command
     if site == number {
         Ok(command)
     } else {
-        Err(BadLine::OtherSite)
+        Err(fault_of_other(schema, number, site, line))
     }
 }
 

@@ -12,7 +12,7 @@ use std::alloc::AllocError;
 pub enum BadLine {
     /// It has more than 256 bytes.
     TooLong,
-    /// It is the text of a command of another site.
+    /// It is the text of a command of another site of the schema.
     OtherSite,
     /// Its second word, which is to name a command, names none.
     UnknownWord,

@@ -15,6 +15,7 @@ pub(crate) fn add_safely<F: LogFile>(file: &mut F, piece: &[u8]) -> Result<(), F
     ensures added { OnOk result (F.bytes file.new ≡ append_known (F.bytes file.old) piece.now) }
     ensures safe { OnOk result (F.safe file.new ≡ F.bytes file.new) }
     ensures kept { OnErr result (F.safe file.new ≡ F.safe file.old) }
+    ensures least { F.least file.new ≡ F.least file.old }
 {
     if write_front(file, piece) < piece.len() {
         return Err(FileFailed);

@@ -14,6 +14,8 @@ impl LogFile for NoTrace {
 
     ghost safe = { λ t. None };
 
+    ghost least = { λ t. None };
+
     fn read_at(&mut self, _at: u64, _buffer: &mut [u8]) -> Result<usize, FileFailed> {
         Ok(0)
     }

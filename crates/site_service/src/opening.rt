@@ -1,12 +1,12 @@
 //! What a service finds in its log.
 
-ghost use Rattle.std.specs.Prelude.{◌≡◌, ◌<◌, ◌≤◌, [], length, take, drop, IfOk, IfErr, OnOk};
+ghost use Rattle.std.specs.Prelude.{◌≡◌, ◌<◌, ◌≤◌, [], ℕ, false, length, take, drop, IfOk, IfErr, OnOk, OnErr};
 ghost use Rattle.kept_records.specs.Logs.{HasNoLf};
 ghost use Rattle.script_input.specs.Lines.{last_part};
 ghost use Rattle.site_step.specs.Site.{Opens};
 ghost use Rattle.site_step.specs.Opening.{TellsLine, SparesLogs};
 ghost use Rattle.file_medium.specs.Copies.{IsCopyOf};
-ghost use Rattle.site_service.specs.Opening.{HoldsLines};
+ghost use Rattle.site_service.specs.Opening.{HoldsLines, KeepsLines, SparesLines, TellsBadLine};
 ghost use Rattle.site_service.specs.Service.{IsWhole};
 
 use field_bounds::{Entry, Schema, SiteNo};
@@ -29,25 +29,52 @@ fn lines_length(bytes: &[u8]) -> usize
     }
 }
 
-// Cuts a file that holds these bytes to the first so many, where it has more.
-fn cut_behind<F: LogFile>(log: &mut F, bytes: &[u8], kept: usize) -> Result<(), MediumFault>
-    requires within { kept ≤ length bytes.now }
-    requires copy { IsCopyOf (F.bytes log.old) bytes.now }
-    ensures cut { OnOk result (IsCopyOf (F.bytes log.new) (take kept bytes.now)) }
+/// What a log holds: its whole lines, and whether a torn end stands behind them.
+#[derive(Drop)]
+struct HeldLines {
+    lines: Vec<u8>,
+    torn: bool,
+}
+
+// Reads the whole lines of a log, which stays as it is.
+fn read_lines<F: LogFile>(alloc: Global, log: &mut F) -> Result<HeldLines, MediumFault>
+    ensures lines { IfOk result (λ held. HoldsLines (F.bytes log.old) held.lines.items) }
+    ensures all { IfOk result (λ held. held.torn ≡ false
+        → IsCopyOf (F.bytes log.old) held.lines.items) }
+    ensures bytes { F.bytes log.new ≡ F.bytes log.old }
+    ensures safe { F.safe log.new ≡ F.safe log.old }
+    ensures least { F.least log.new ≡ F.least log.old }
 {
-    if kept == bytes.len() {
+    let mut held = read_whole(alloc, log)?;
+    let kept = lines_length(held.as_slice());
+    let torn = kept < held.len();
+    held.truncate(kept);
+    Ok(HeldLines { lines: held, torn })
+}
+
+// Cuts off what stands behind the whole lines of a log, where there is any of it.
+fn cut_behind<F: LogFile>(log: &mut F, lines: &[u8], torn: bool) -> Result<(), MediumFault>
+    requires lines { HoldsLines (F.bytes log.old) lines.now }
+    requires all { torn ≡ false → IsCopyOf (F.bytes log.old) lines.now }
+    ensures cut { OnOk result (IsCopyOf (F.bytes log.new) lines.now) }
+    ensures safe { KeepsLines (F.bytes log.old) (F.safe log.old) (F.safe log.new) }
+    ensures least { SparesLines (F.bytes log.old) (F.least log.old) (F.least log.new) }
+{
+    if !torn {
         return Ok(());
     }
-    match log.cut(kept as u64) {
+    match log.cut(lines.len() as u64) {
         Ok(()) => Ok(()),
         Err(FileFailed) => Err(MediumFault::Device),
     }
 }
 
-// Makes safe what a file holds.
+// Makes safe what a file holds. What was safe still is, also at the fault.
 fn make_safe<F: LogFile>(log: &mut F) -> Result<(), MediumFault>
     ensures bytes { OnOk result (F.bytes log.new ≡ F.bytes log.old) }
     ensures safe { OnOk result (F.safe log.new ≡ F.bytes log.old) }
+    ensures kept { OnErr result (F.safe log.new ≡ F.safe log.old) }
+    ensures least { F.least log.new ≡ F.least log.old }
 {
     match log.sync() {
         Ok(()) => Ok(()),
@@ -55,22 +82,23 @@ fn make_safe<F: LogFile>(log: &mut F) -> Result<(), MediumFault>
     }
 }
 
-/// Reads the whole lines of a log, cuts off what stands behind them, and makes them safe.
-pub(crate) fn read_lines<F: LogFile>(alloc: Global, log: &mut F) -> Result<Vec<u8>, MediumFault>
-    ensures lines { IfOk result (λ held. HoldsLines (F.bytes log.old) held.items) }
-    ensures bytes { IfOk result (λ held. IsCopyOf (F.bytes log.new) held.items) }
-    ensures safe { IfOk result (λ held. IsCopyOf (F.safe log.new) held.items) }
+// Leaves in a log its whole lines alone, and makes them safe. What was safe of them still is, also
+// at the fault.
+fn keep_lines<F: LogFile>(log: &mut F, lines: &[u8], torn: bool) -> Result<(), MediumFault>
+    requires lines { HoldsLines (F.bytes log.old) lines.now }
+    requires all { torn ≡ false → IsCopyOf (F.bytes log.old) lines.now }
+    ensures bytes { OnOk result (IsCopyOf (F.bytes log.new) lines.now) }
+    ensures safe { OnOk result (IsCopyOf (F.safe log.new) lines.now) }
+    ensures kept { OnErr result (KeepsLines (F.bytes log.old) (F.safe log.old)
+        (F.safe log.new)) }
+    ensures least { SparesLines (F.bytes log.old) (F.least log.old) (F.least log.new) }
 {
-    let mut held = read_whole(alloc, log)?;
-    let kept = lines_length(held.as_slice());
-    cut_behind(log, held.as_slice(), kept)?;
-    make_safe(log)?;
-    held.truncate(kept);
-    Ok(held)
+    cut_behind(log, lines, torn)?;
+    make_safe(log)
 }
 
-/// Opens the site over whole lines. The medium is dropped at a fault.
-pub(crate) fn open_site(
+// Opens the site over whole lines. The medium is dropped at a fault.
+fn open_site(
     alloc: Global,
     schema: &Schema,
     number: SiteNo,
@@ -88,4 +116,37 @@ pub(crate) fn open_site(
         Ok(site) => Ok(site),
         Err((fault, _medium)) => Err(fault),
     }
+}
+
+/// Opens the site over the whole lines of a log. Then what stands behind them is cut off, and they
+/// are made safe. A log that is refused stays as it is; and at each fault what was safe of its whole
+/// lines still is.
+pub(crate) fn open_lines<F: LogFile>(
+    alloc: Global,
+    schema: &Schema,
+    number: SiteNo,
+    log: &mut F,
+) -> Result<Site<MemoryMedium, GhostHistory<Entry>>, OpenFault>
+    requires in_schema { number.0 < schema.now.sites }
+    ensures lines { IfOk result (λ site. HoldsLines (F.bytes log.old) site.bytes) }
+    ensures opens { IfOk result (λ site. Opens schema.now number site.bytes 0 site) }
+    ensures whole { IfOk result IsWhole }
+    ensures bytes { IfOk result (λ site. IsCopyOf (F.bytes log.new) site.bytes) }
+    ensures safe { IfOk result (λ site. IsCopyOf (F.safe log.new) site.bytes) }
+    ensures line { IfErr result (TellsBadLine schema.now number (F.bytes log.old)) }
+    ensures kept { OnErr result (KeepsLines (F.bytes log.old) (F.safe log.old)
+        (F.safe log.new)) }
+    ensures least { SparesLines (F.bytes log.old) (F.least log.old) (F.least log.new) }
+    ensures same_bytes { IfErr result (λ fault. (n : ℕ) → fault ≡ OpenFault.Line n
+        → F.bytes log.new ≡ F.bytes log.old) }
+    ensures same_safe { IfErr result (λ fault. (n : ℕ) → fault ≡ OpenFault.Line n
+        → F.safe log.new ≡ F.safe log.old) }
+    ensures same_least { IfErr result (λ fault. (n : ℕ) → fault ≡ OpenFault.Line n
+        → F.least log.new ≡ F.least log.old) }
+{
+    let held = read_lines(alloc, log)?;
+    let torn = held.torn;
+    let site = open_site(alloc, schema, number, held.lines)?;
+    keep_lines(log, site.medium().bytes(), torn)?;
+    Ok(site)
 }

@@ -1,11 +1,12 @@
 //! A site over a log that follows its medium.
 
-ghost use Rattle.std.specs.Prelude.{◌≡◌, ◌<◌, [], true, length, List, ℕ, IfOk, IfErr, OnOk, OnErr};
+ghost use Rattle.std.specs.Prelude.{◌≡◌, ◌<◌, [], true, length, List, ℕ, IfOk, IfErr, OnOk, OnErr, MatchResult};
 ghost use Rattle.entry_text.specs.Lines.{max_line};
 ghost use Rattle.script_input.specs.Streams.{HasRefused};
+ghost use Rattle.file_medium.specs.Copies.{IsCopyOf};
 ghost use Rattle.site_service.specs.Kept.{TellsCommit};
-ghost use Rattle.site_service.specs.Opening.{IsOpened, TellsBadLine};
-ghost use Rattle.site_service.specs.Service.{IsSettled, KeepsLog, HasApplied, HasAnswered, LetsOut, HoldsBack};
+ghost use Rattle.site_service.specs.Opening.{IsOpened, IsStarted, IsSafe, KeepsLines, SparesLines, TellsBadLine};
+ghost use Rattle.site_service.specs.Service.{IsWhole, Grows, IsSettled, KeepsLog, HasApplied, HasAnswered, LetsOut, HoldsBack};
 ghost use Rattle.site_service.specs.Serving.{CountsWrites};
 ghost use Rattle.site_service.specs.Traces.{trace_of, HasTold, HasKept};
 
@@ -13,7 +14,7 @@ use crate::answering::{answer_line, carry_out};
 use crate::fault::ServeFault;
 use crate::following::{add_safely, let_out};
 use crate::kept::KeptCommits;
-use crate::opening::{open_site, read_lines};
+use crate::opening::open_lines;
 use field_bounds::{Command, Entry, Schema, SiteNo, TxnId};
 use file_medium::{FileFailed, LogFile};
 use history::GhostHistory;
@@ -32,8 +33,8 @@ use std::marker::Model;
 /// who opens the log anew.
 ///
 /// Contracts see the site and how many lines were answered; the text that waits; the bytes of the
-/// file and those that are safe, as far as it tells them; how many of the medium's bytes are
-/// settled; and whether the file has failed. At all times the safe bytes are the settled ones of
+/// file, those that are safe, and the fewest that a cut of it has left, as far as it tells them; how
+/// many of the medium's bytes are settled; and whether the file has failed. At all times the safe bytes are the settled ones of
 /// the medium, and so are those of the file, unless it has failed. Costs memory for the log once,
 /// for the text that waits, and for the commits that were asked for: none for the records before,
 /// nor for the answers. Source: this project.
@@ -56,41 +57,91 @@ impl<F: LogFile> Model for Service<F> {
     ghost Value = { ServiceValue };
 
     ghost view = { λ s. value_of s.site s.lines s.waiting.items (F.bytes s.log) (F.safe s.log)
-        s.settled s.lost };
+        (F.least s.log) s.settled s.lost };
 
     ghost invariant = { λ s. IsSoundService s.schema (value_of s.site s.lines s.waiting.items
-        (F.bytes s.log) (F.safe s.log) s.settled s.lost) s.kept };
+        (F.bytes s.log) (F.safe s.log) (F.least s.log) s.settled s.lost) s.kept };
 }
 
 impl<F: LogFile + Drop> Service<F> {
     /// Opens the site of this number over a log, and restarts it: the answer to that waits. What
-    /// stands behind the last line feed is a torn record, and is cut off; then all that the log
-    /// holds is safe, the record of the restart included. The answer is written to the trace, and
-    /// is safe there, before the log gets that record; `NoTrace` is for a site that keeps no trace.
+    /// stands behind the last line feed is a torn record: once the site is open over the whole lines
+    /// it is cut off, and they are made safe. Then the answer is written to the trace, and is safe
+    /// there, before the log gets the record of the restart, which is made safe too; `NoTrace` is for
+    /// a site that keeps no trace.
     ///
     /// `Line(n)`: line n of the log, from 1, is the first that is no record or breaks a rule of a
-    /// kept log; that never comes over what a service left, wherever a stop fell. `Device`: a call
-    /// of a file failed. `NoMemory`: memory is wanting. Either lets go of the log. Costs two syncs
-    /// of the log and one of the trace, and memory for the bytes of the log, twice until it is open.
+    /// kept log; that never comes over what a service left, wherever a stop fell. Then the log is as
+    /// it was, its torn end too. `Device`: a call of a file failed. `NoMemory`: memory is wanting.
+    /// Each hands the log back, of whose whole lines no cut took any and what was safe still is; so
+    /// too at any moment before. Costs two syncs of the log and one of the trace, and memory for the
+    /// bytes of the log, twice until it is open.
     pub fn open<T: LogFile>(
         alloc: Global,
         schema: Schema,
         number: SiteNo,
         log: F,
         trace: &mut T,
-    ) -> Result<Service<F>, OpenFault>
+    ) -> Result<Service<F>, (OpenFault, F)>
         requires in_schema { number.0 < schema.sites }
         ensures ok { IfOk result (IsOpened schema number (F.bytes log)) }
-        ensures line { IfErr result (TellsBadLine schema number (F.bytes log)) }
+        ensures line { IfErr result (λ left. TellsBadLine schema number (F.bytes log) left.0) }
+
+        // Of the whole lines of the log what was safe still is, however it ends.
+        ensures safe { MatchResult result
+            (λ made. KeepsLines (F.bytes log) (F.safe log) made.safe)
+            (λ left. KeepsLines (F.bytes log) (F.safe log) (F.safe left.1)) }
+
+        // No cut took any of them, so they stood in the log at each moment.
+        ensures least { MatchResult result
+            (λ made. SparesLines (F.bytes log) (F.least log) made.least)
+            (λ left. SparesLines (F.bytes log) (F.least log) (F.least left.1)) }
+
+        // A log that is refused is as it was.
+        ensures same_bytes { IfErr result (λ left. (n : ℕ) → left.0 ≡ OpenFault.Line n
+            → F.bytes left.1 ≡ F.bytes log) }
+        ensures same_safe { IfErr result (λ left. (n : ℕ) → left.0 ≡ OpenFault.Line n
+            → F.safe left.1 ≡ F.safe log) }
+        ensures same_least { IfErr result (λ left. (n : ℕ) → left.0 ≡ OpenFault.Line n
+            → F.least left.1 ≡ F.least log) }
         ensures told { IfOk result (λ made. HasTold (trace_of (T.bytes trace.old) (T.safe trace.old))
             (trace_of (T.bytes trace.new) (T.safe trace.new)) made.waiting) }
         ensures kept { OnErr result (HasKept (trace_of (T.bytes trace.old) (T.safe trace.old))
             (trace_of (T.bytes trace.new) (T.safe trace.new)) []) }
+        ensures uncut { T.least trace.new ≡ T.least trace.old }
     {
         let mut log = log;
-        let held = read_lines(alloc, &mut log)?;
-        let settled = held.len();
-        let site = open_site(alloc, &schema, number, held)?;
+        match open_lines(alloc, &schema, number, &mut log) {
+            Ok(site) => Service::start(alloc, schema, site, log, trace),
+            Err(fault) => Err((fault, log)),
+        }
+    }
+
+    // Serves a site that was opened over what its log holds: restarts it, and settles that.
+    fn start<T: LogFile>(
+        alloc: Global,
+        schema: Schema,
+        site: Site<MemoryMedium, GhostHistory<Entry>>,
+        log: F,
+        trace: &mut T,
+    ) -> Result<Service<F>, (OpenFault, F)>
+        requires own { site.schema ≡ schema }
+        requires whole { IsWhole site }
+        requires bytes { IsCopyOf (F.bytes log) site.bytes }
+        requires safe { IsCopyOf (F.safe log) site.bytes }
+        ensures ok { IfOk result (IsStarted site) }
+        ensures line { IfErr result (λ left. (n : ℕ) → left.0 ≡ OpenFault.Line n → ⊥) }
+        ensures safe { MatchResult result (λ made. IsSafe made.safe site.bytes)
+            (λ left. IsSafe (F.safe left.1) site.bytes) }
+        ensures least { MatchResult result (λ made. made.least ≡ F.least log)
+            (λ left. F.least left.1 ≡ F.least log) }
+        ensures told { IfOk result (λ made. HasTold (trace_of (T.bytes trace.old) (T.safe trace.old))
+            (trace_of (T.bytes trace.new) (T.safe trace.new)) made.waiting) }
+        ensures kept { OnErr result (HasKept (trace_of (T.bytes trace.old) (T.safe trace.old))
+            (trace_of (T.bytes trace.new) (T.safe trace.new)) []) }
+        ensures uncut { T.least trace.new ≡ T.least trace.old }
+    {
+        let settled = site.medium().bytes().len();
         let mut service = Service {
             site,
             schema,
@@ -101,11 +152,19 @@ impl<F: LogFile + Drop> Service<F> {
             settled,
             lost: false,
         };
-        service.apply(alloc, Command::Restart)?;
-        match service.settle_behind(trace) {
+        match service.restart(alloc, trace) {
             Ok(()) => Ok(service),
-            Err(Device) => Err(OpenFault::Device),
+            Err(fault) => Err((fault, service.into_log())),
         }
+    }
+
+    // The log, as it is.
+    fn into_log(self) -> F
+        ensures bytes { F.bytes result ≡ self.log }
+        ensures safe { F.safe result ≡ self.safe }
+        ensures least { F.least result ≡ self.least }
+    {
+        self.log
     }
 }
 
@@ -143,6 +202,9 @@ impl<F: LogFile> Service<F> {
     pub fn apply(&mut self, alloc: Global, command: Command) -> Result<(), AllocError>
         ensures ok { OnOk result (HasApplied command self.old self.new) }
         ensures err { OnErr result (self.new.waiting ≡ self.old.waiting) }
+
+        // Nothing of the site is lost, also where memory is refused.
+        ensures grows { Grows self.old.served.site self.new.served.site }
         ensures log { KeepsLog self.old self.new }
     {
         carry_out(
@@ -163,6 +225,9 @@ impl<F: LogFile> Service<F> {
         ensures long { (whole : List ℕ) → max_line < length line.now → max_line < length whole
             → OnOk result (HasAnswered whole self.old self.new) }
         ensures err { OnErr result (self.new.waiting ≡ self.old.waiting) }
+
+        // Nothing of the site is lost, also where memory is refused.
+        ensures grows { Grows self.old.served.site self.new.served.site }
         ensures log { KeepsLog self.old self.new }
     {
         self.lines = self.lines.wrapping_add(1);
@@ -185,6 +250,7 @@ impl<F: LogFile> Service<F> {
         ensures ok { OnOk result (HasTold (trace_of (T.bytes trace.old) (T.safe trace.old))
             (trace_of (T.bytes trace.new) (T.safe trace.new)) self.now.waiting) }
         ensures err { OnErr result (T.safe trace.new ≡ T.safe trace.old) }
+        ensures uncut { T.least trace.new ≡ T.least trace.old }
     {
         if self.waiting.is_empty() {
             return Ok(());
@@ -199,15 +265,38 @@ impl<F: LogFile> Service<F> {
     fn settle_behind<T: LogFile>(&mut self, trace: &mut T) -> Result<(), Device>
         ensures ok { OnOk result (IsSettled self.new) }
         ensures safe { OnErr result (self.new.safe ≡ self.old.safe) }
+        ensures least { self.new.least ≡ self.old.least }
         ensures served { self.new.served ≡ self.old.served }
         ensures waiting { self.new.waiting ≡ self.old.waiting }
         ensures told { OnOk result (HasTold (trace_of (T.bytes trace.old) (T.safe trace.old))
             (trace_of (T.bytes trace.new) (T.safe trace.new)) self.old.waiting) }
         ensures kept { OnErr result (HasKept (trace_of (T.bytes trace.old) (T.safe trace.old))
             (trace_of (T.bytes trace.new) (T.safe trace.new)) []) }
+        ensures uncut { T.least trace.new ≡ T.least trace.old }
     {
         self.write_trace(trace)?;
         self.settle()
+    }
+
+    // Restarts the site, tells that to the trace, and settles the log.
+    fn restart<T: LogFile>(&mut self, alloc: Global, trace: &mut T) -> Result<(), OpenFault>
+        ensures ok { OnOk result (HasApplied Command.Restart self.old self.new) }
+        ensures settled { OnOk result (IsSettled self.new) }
+        ensures line { IfErr result (λ fault. (n : ℕ) → fault ≡ OpenFault.Line n → ⊥) }
+        ensures grows { Grows self.old.served.site self.new.served.site }
+        ensures safe { OnErr result (self.new.safe ≡ self.old.safe) }
+        ensures least { self.new.least ≡ self.old.least }
+        ensures told { OnOk result (HasTold (trace_of (T.bytes trace.old) (T.safe trace.old))
+            (trace_of (T.bytes trace.new) (T.safe trace.new)) self.new.waiting) }
+        ensures kept { OnErr result (HasKept (trace_of (T.bytes trace.old) (T.safe trace.old))
+            (trace_of (T.bytes trace.new) (T.safe trace.new)) []) }
+        ensures uncut { T.least trace.new ≡ T.least trace.old }
+    {
+        self.apply(alloc, Command::Restart)?;
+        match self.settle_behind(trace) {
+            Ok(()) => Ok(()),
+            Err(Device) => Err(OpenFault::Device),
+        }
     }
 
     /// Brings the log to what the medium holds, by one sync where that is more than it has: at Ok
@@ -219,6 +308,7 @@ impl<F: LogFile> Service<F> {
         ensures err { OnErr result (self.new.lost ≡ true) }
         ensures safe { OnErr result (self.new.safe ≡ self.old.safe) }
         ensures lost { self.old.lost ≡ true → self.new.lost ≡ true }
+        ensures least { self.new.least ≡ self.old.least }
         ensures served { self.new.served ≡ self.old.served }
         ensures waiting { self.new.waiting ≡ self.old.waiting }
     {
@@ -254,6 +344,10 @@ impl<F: LogFile> Service<F> {
         // At a device fault the writer is as it was.
         ensures untouched { IfErr result (λ fault. fault ≡ ServeFault.Device
             → writer.new ≡ writer.old) }
+
+        // Once a call of the file has failed nothing is let out any more.
+        ensures lost { self.old.lost ≡ true → self.new.lost ≡ true }
+        ensures least { self.new.least ≡ self.old.least }
         ensures served { self.new.served ≡ self.old.served }
         ensures refused { IfErr result (λ fault. fault ≡ ServeFault.Write
             → HasRefused (W.last writer.new)) }

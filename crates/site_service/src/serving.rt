@@ -1,6 +1,6 @@
 //! The serving of an input: what one read brings is a batch.
 
-ghost use Rattle.std.specs.Prelude.{◌≡◌, ◌≢◌, ◌<◌, ◌≤◌, ◌⊎◌, ◌++◌, ◌∷◌, ℕ, List, Option, [], false, length, take, All, MatchOption, IfOk, IfErr, OnOk, OnErr, vec_len};
+ghost use Rattle.std.specs.Prelude.{◌≡◌, ◌≢◌, ◌<◌, ◌≤◌, ◌⊎◌, ◌+◌, ◌++◌, ◌∷◌, ℕ, List, Option, [], false, length, take, All, MatchOption, IfOk, IfErr, OnOk, OnErr, vec_len};
 ghost use Rattle.std.specs.Io.{ReadsAtMost};
 ghost use Rattle.std.specs.Io.KnownBytes.{IsAtEnd, ReadConsumes};
 ghost use Rattle.script_input.specs.Lines.{whole_lines_after, last_part_after};
@@ -122,15 +122,18 @@ fn take_batch<F: LogFile, T: LogFile, R: Source, W: Sink>(
 ) -> Result<bool, ServeFault>
     requires room { 0 < length buffer.old }
     ensures ok { (from before : Option (List ℕ)) (was : TraceValue) (start : ServiceValue)
-        → ServesPart from (R.bytes reader.old) before (W.bytes writer.old)
-        was (trace_of (T.bytes trace.old) (T.safe trace.old)) start service.old line.old.items
+        (reads : ℕ) → ServesPart from (R.bytes reader.old) before (W.bytes writer.old)
+        was (trace_of (T.bytes trace.old) (T.safe trace.old)) start service.old line.old.items reads
         → IfOk result (ServesOn from (R.bytes reader.new) before (W.bytes writer.new)
-        was (trace_of (T.bytes trace.new) (T.safe trace.new)) start service.new line.new.items) }
+        was (trace_of (T.bytes trace.new) (T.safe trace.new)) start service.new line.new.items
+        (reads + 1)) }
     ensures err { (from before : Option (List ℕ)) (was : TraceValue) (start : ServiceValue)
-        → ServesPart from (R.bytes reader.old) before (W.bytes writer.old)
-        was (trace_of (T.bytes trace.old) (T.safe trace.old)) start service.old line.old.items
+        (reads : ℕ) → ServesPart from (R.bytes reader.old) before (W.bytes writer.old)
+        was (trace_of (T.bytes trace.old) (T.safe trace.old)) start service.old line.old.items reads
         → IfErr result (Stops from (R.bytes reader.new) before (W.bytes writer.new)
         was (trace_of (T.bytes trace.new) (T.safe trace.new)) start service.new) }
+    ensures least { service.new.least ≡ service.old.least }
+    ensures uncut { T.least trace.new ≡ T.least trace.old }
     ensures end { IfOk result (λ more. more ≡ false → GaveNothing (R.last reader.new)) }
     ensures read { IfErr result (λ fault. fault ≡ ServeFault.Read
         → HasFailed (R.last reader.new)) }
@@ -159,15 +162,17 @@ fn serve_batches<F: LogFile, T: LogFile, R: Source, W: Sink>(
 ) -> Result<(), ServeFault>
     ensures ok { (from before : Option (List ℕ)) (was : TraceValue) (start : ServiceValue)
         → ServesPart from (R.bytes reader.old) before (W.bytes writer.old)
-        was (trace_of (T.bytes trace.old) (T.safe trace.old)) start service.old []
+        was (trace_of (T.bytes trace.old) (T.safe trace.old)) start service.old [] 0
         → OnOk result (Serves from (R.bytes reader.new) before (W.bytes writer.new)
         was (trace_of (T.bytes trace.new) (T.safe trace.new)) start service.new
         × IsAtEnd (R.bytes reader.new)) }
     ensures err { (from before : Option (List ℕ)) (was : TraceValue) (start : ServiceValue)
         → ServesPart from (R.bytes reader.old) before (W.bytes writer.old)
-        was (trace_of (T.bytes trace.old) (T.safe trace.old)) start service.old []
+        was (trace_of (T.bytes trace.old) (T.safe trace.old)) start service.old [] 0
         → IfErr result (Stops from (R.bytes reader.new) before (W.bytes writer.new)
         was (trace_of (T.bytes trace.new) (T.safe trace.new)) start service.new) }
+    ensures least { service.new.least ≡ service.old.least }
+    ensures uncut { T.least trace.new ≡ T.least trace.old }
     ensures end { OnOk result (GaveNothing (R.last reader.new)) }
     ensures read { IfErr result (λ fault. fault ≡ ServeFault.Read
         → HasFailed (R.last reader.new)) }
@@ -178,7 +183,7 @@ fn serve_batches<F: LogFile, T: LogFile, R: Source, W: Sink>(
 {
     let mut buffer = new_buffer(alloc)?;
     let mut line = Vec::new(alloc);
-    'batches: for _ in 0..u64::MAX {
+    'batches: for _reads in 0..u64::MAX {
         if !take_batch(
             alloc,
             service,
@@ -203,7 +208,8 @@ fn serve_batches<F: LogFile, T: LogFile, R: Source, W: Sink>(
 /// may be wanting. There is no limit to the input but that of 2^64 - 1 reads.
 ///
 /// The faults: `Read`, a read answered an error, which isn't tried again; `Write`, a write did, or
-/// took no byte; `Device`, a call of the log's or the trace's file failed; `NoMemory`. At each but
+/// took no byte; `Device`, a call of the log's or the trace's file failed; `NoMemory`; `TooLong`, so
+/// many reads were made, each of which brought a byte at least. At each but
 /// `Write` exactly the answers of the batches before it were written, and at `Write` a front of
 /// these with its own. Then neither the service nor the trace is to be used any more.
 ///
@@ -227,13 +233,17 @@ pub fn serve<F: LogFile, T: LogFile, R: Source, W: Sink>(
     ensures end { OnOk result (GaveNothing (R.last reader.new)) }
 
     // At a fault what was written is the text of the answers to the whole lines of a front, which is
-    // safe in the trace.
+    // safe in the trace. The input is too long only where the front has 2^64 - 1 bytes at least.
     ensures err { IfErr result (λ fault. StopsAtOnce (R.bytes reader.old) (R.bytes reader.new)
         (W.bytes writer.old) (W.bytes writer.new) (trace_of (T.bytes trace.old) (T.safe trace.old))
-        (trace_of (T.bytes trace.new) (T.safe trace.new)) fault
+        (trace_of (T.bytes trace.new) (T.safe trace.new)) service.old service.new fault
         ⊎ Stops (R.bytes reader.old) (R.bytes reader.new)
         (W.bytes writer.old) (W.bytes writer.new) (trace_of (T.bytes trace.old) (T.safe trace.old))
         (trace_of (T.bytes trace.new) (T.safe trace.new)) service.old service.new fault) }
+
+    // No cut is made, of the log or of the trace.
+    ensures least { service.new.least ≡ service.old.least }
+    ensures uncut { T.least trace.new ≡ T.least trace.old }
 
     // A read fault comes only where a read failed.
     ensures read { IfErr result (λ fault. fault ≡ ServeFault.Read
@@ -249,6 +259,8 @@ pub fn serve<F: LogFile, T: LogFile, R: Source, W: Sink>(
     // One write was refused in this call at a write fault, and else none.
     ensures writes { CountsWrites result (W.refusals writer.old) (W.refusals writer.new) }
 {
-    service.release(writer)?;
-    serve_batches(alloc, service, trace, reader, writer)
+    match service.release(writer) {
+        Ok(()) => serve_batches(alloc, service, trace, reader, writer),
+        Err(fault) => Err(fault),
+    }
 }

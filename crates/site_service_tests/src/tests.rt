@@ -1,7 +1,9 @@
 //! Each expected answer is worked out by hand from the definitions.
 
+mod batches;
 mod faults;
 mod kept;
+mod starts;
 mod traces;
 mod turns;
 
@@ -40,7 +42,10 @@ fn open_traced<F: LogFile + Drop, T: LogFile>(
 ) -> Result<Service<F>, OpenFault> {
     let schema = stock_of_two(alloc).expect(rt, "memory");
     assert!(rt; schema.sites() == 2);
-    Service::open(alloc, schema, SiteNo(0), file, trace)
+    match Service::open(alloc, schema, SiteNo(0), file, trace) {
+        Ok(service) => Ok(service),
+        Err((fault, _file)) => Err(fault),
+    }
 }
 
 /// Site 0 of two, served over this file.
@@ -220,7 +225,7 @@ fn answers_each_line(rt: HostRuntime) {
 }
 
 /// Lines that ask nothing, and why.
-const BAD_LINES: [(&str, &str); 14] = [
+const BAD_LINES: [(&str, &str); 20] = [
     ("hello", "no command"),
     ("0  begin", "unknown word"),
     ("0 sell stock", "unknown word"),
@@ -235,6 +240,12 @@ const BAD_LINES: [(&str, &str); 14] = [
     ("0 give 1", "no command"),
     ("0 accept 1 0 sock lower 4", "no such field"),
     ("kept begin", "no command"),
+    ("2 begin", "no command"),
+    ("2 share stock", "no command"),
+    ("65535 restart", "no command"),
+    ("2 sell stock", "unknown word"),
+    ("2 share sock", "no such field"),
+    ("1 begin", "other site"),
 ];
 
 /// Answers a line, and lets the answer out.

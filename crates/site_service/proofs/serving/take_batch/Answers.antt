@@ -1,4 +1,4 @@
-use Rattle.std.proofs.Common.{◌≡◌, ◌<◌, [], length, take, refl, sym, subst, ◌∙◌, arith}
+use Rattle.std.proofs.Common.{◌≡◌, ◌<◌, [], length, take, refl, sym, ap, subst, ◌∙◌, arith}
 use Rattle.std.proofs.lemmas.Result.{err_from_is_err_and}
 use Rattle.std.specs.Io.KnownBytes.{Consumes}
 use Rattle.script_input.specs.Lines.{last_part}
@@ -13,9 +13,11 @@ pub returns-in_err-count : goal.returns-in_err-count
 returns-in_err-count g c =
     let p = err_from_is_err_and c.from_residual.result c.from_residual.ensures.1 in
     rw (p.1, p.2, c.in_err-count.ensures.fault) (record {
-      ok = λ from before was start part. tt;
-      err = λ from before was start part.
-          stops_kept from _ _ before _ was _ start c.args.service.now c.args.line.now.items part c.in_err-count.ensures.bytes;
+      ok = λ from before was start reads part. tt;
+      err = λ from before was start reads part.
+          stops_kept from _ _ before _ was _ start c.args.service.now c.args.line.now.items reads part c.in_err-count.ensures.bytes;
+      least = refl;
+      uncut = refl;
       end = tt;
       read = λ h. c.in_err-count.ensures.failed;
       write = λ h. cc;
@@ -25,12 +27,12 @@ returns-in_err-count g c =
     })
 
 pub returns-then-count-eq0-clause-ok : goal.returns-then-count-eq0-clause-ok
-returns-then-count-eq0-clause-ok g c = λ from before was start part.
+returns-then-count-eq0-clause-ok g c = λ from before was start reads part.
     let mid = g.R.Source.bytes c.args.reader.now in
     let to = g.R.Source.bytes c.read_piece.new.reader in
     let none : Consumes mid to [] = subst (λ n. Consumes mid to (take n c.read_piece.new.buffer)) c.if-count-eq0.true c.in_ok-count.ensures.bytes.0 in
     let room : 0 < length c.read_piece.new.buffer = omega (arith, c.requires.room, c.read_piece.auto.buffer) in (
-      serves_all from mid to before _ was _ start c.args.service.now c.args.line.now.items part none,
+      serves_all from mid to before _ was _ start c.args.service.now c.args.line.now.items reads part none,
       c.in_ok-count.ensures.bytes.1 c.if-count-eq0.true room,
     )
 
@@ -47,11 +49,13 @@ returns-in_err-answer_piece g c =
     let more : Consumes mid to c.front.result.now = subst (Consumes mid to) (sym c.front.ensures.bytes) c.in_ok-count.ensures.bytes.0 in
     let p = err_from_is_err_and c.from_residual-in_err-answer_piece.result c.from_residual-in_err-answer_piece.ensures.1 in
     rw (p.1, p.2) (record {
-      ok = λ from before was start part. tt;
-      err = λ from before was start part.
+      ok = λ from before was start reads part. tt;
+      err = λ from before was start reads part.
           stops_behind from mid to before _ was trace trace start c.args.service.now c.answer_piece.new.service c.args.line.now.items
-          c.front.result.now part more c.in_err-answer_piece.ensures.log.safe (kept_of was trace part.serves.text part.serves.told)
-          faults.NoMemory part.serves.written;
+          c.front.result.now reads part more c.in_err-answer_piece.ensures.log.safe (kept_of was trace part.serves.text part.serves.told)
+          faults.NoMemory part.serves.written tt;
+      least = c.in_err-answer_piece.ensures.log.least;
+      uncut = refl;
       end = tt;
       read = λ h. cc;
       write = λ h. cc;
@@ -68,11 +72,13 @@ returns-in_err-write_trace g c =
     let more : Consumes mid to c.front.result.now = subst (Consumes mid to) (sym c.front.ensures.bytes) c.in_ok-count.ensures.bytes.0 in
     let p = err_from_is_err_and c.from_residual-in_err-write_trace.result c.from_residual-in_err-write_trace.ensures.1 in
     rw (p.1, p.2) (record {
-      ok = λ from before was start part. tt;
-      err = λ from before was start part.
+      ok = λ from before was start reads part. tt;
+      err = λ from before was start reads part.
           stops_behind from mid to before _ was trace traced start c.args.service.now c.answer_piece.new.service c.args.line.now.items
-          c.front.result.now part more c.in_ok-answer_piece.ensures.log.safe
-          (kept_still was trace traced part.serves.text part.serves.told c.in_err-write_trace.ensures.err) faults.Device part.serves.written;
+          c.front.result.now reads part more c.in_ok-answer_piece.ensures.log.safe
+          (kept_still was trace traced part.serves.text part.serves.told c.in_err-write_trace.ensures.err) faults.Device part.serves.written tt;
+      least = c.in_ok-answer_piece.ensures.log.least;
+      uncut = c.in_err-write_trace.ensures.uncut;
       end = tt;
       read = λ h. cc;
       write = λ h. cc;
@@ -87,12 +93,14 @@ returns-in_err-release g c =
     let more : Consumes mid to c.front.result.now = subst (Consumes mid to) (sym c.front.ensures.bytes) c.in_ok-count.ensures.bytes.0 in
     let p = err_from_is_err_and c.from_residual-in_err-release.result c.from_residual-in_err-release.ensures.1 in
     rw (p.1, p.2) (record {
-      ok = λ from before was start part. tt;
-      err = λ from before was start part.
+      ok = λ from before was start reads part. tt;
+      err = λ from before was start reads part.
           let both = c.in_ok-answer_piece.ensures.ok (last_part part.serves.read) part.kept in
           stops_release from mid to before _ _ was _ _ start c.args.service.now c.answer_piece.new.service c.release.new.self
-          c.args.line.now.items c.front.result.now part more both.1 c.in_ok-write_trace.ensures.ok c.in_ok-answer_piece.ensures.log
+          c.args.line.now.items c.front.result.now reads part more both.1 c.in_ok-write_trace.ensures.ok c.in_ok-answer_piece.ensures.log
           c.in_err-release.ensures.served _ c.in_err-release.ensures.err;
+      least = c.in_err-release.ensures.least ∙ c.in_ok-answer_piece.ensures.log.least;
+      uncut = c.in_ok-write_trace.ensures.uncut;
       end = tt;
       read = λ h. absurd (held_not_read (g.W.Sink.bytes c.args.writer.now) (g.W.Sink.bytes c.release.new.writer) c.answer_piece.new.service
           c.release.new.self _ c.in_err-release.ensures.err h);
@@ -103,11 +111,13 @@ returns-in_err-release g c =
     })
 
 pub returns-clause-ok : goal.returns-clause-ok
-returns-clause-ok g c = λ from before was start part.
+returns-clause-ok g c = λ from before was start reads part.
     let mid = g.R.Source.bytes c.args.reader.now in
     let to = g.R.Source.bytes c.read_piece.new.reader in
     let more : Consumes mid to c.front.result.now = subst (Consumes mid to) (sym c.front.ensures.bytes) c.in_ok-count.ensures.bytes.0 in
     let both = c.in_ok-answer_piece.ensures.ok (last_part part.serves.read) part.kept in
+    let brought : 0 < length c.front.result.now =
+    omega (arith, ap length c.front.ensures.bytes, c.in_ok-count.ensures.bound.1, c.if-count-eq0.false) in
     serves_batch from mid to before _ _ was _ _ start c.args.service.now c.answer_piece.new.service c.args.line.now.items c.front.result.now
-    part more both.1 c.in_ok-write_trace.ensures.ok c.release.new.self c.answer_piece.new.line.items c.in_ok-release.ensures.served
+    reads part more both.1 c.in_ok-write_trace.ensures.ok brought c.release.new.self c.answer_piece.new.line.items c.in_ok-release.ensures.served
     c.in_ok-release.ensures.ok both.0

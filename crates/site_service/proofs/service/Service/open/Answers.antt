@@ -1,43 +1,55 @@
-use Rattle.std.proofs.Common.{[], refl, arith}
-use Rattle.std.proofs.lemmas.Result.{err_from_is_err_and}
+use Rattle.std.proofs.Common.{◌≡◌, ℕ, [], refl, sym, subst}
+use Rattle.std.proofs.lemmas.Result.{IfOk-weaker, IfErr-weaker, MatchResult-weaker}
+use Rattle.site_service.specs.Opening.{SparesLines}
 use Rattle.site_service.specs.Traces.{trace_of}
 use Rattle.site_service.proofs.Tracing.{told_none, kept_of}
-use Rattle.site_service.proofs.Links.{link_opened, is_opened, names_none, names_line}
+use Rattle.site_service.proofs.Links.{is_opened, names_not}
+use Rattle.site_service.proofs.Starts.{keeps_all}
 use Rattle.site_service.proofs.service.Service.open.Goals as goal
 
-pub returns-in_err-held-clause-line : goal.returns-in_err-held-clause-line
-returns-in_err-held-clause-line g c =
-    let p = err_from_is_err_and c.from_residual.result c.from_residual.ensures.1 in
-    rw (p.1, p.2) (names_none c.args.schema c.args.number (g.F.LogFile.bytes c.args.log) _)
+pub start-requires : goal.start-requires
+start-requires g c = record {
+  own = c.in-Ok.ensures.opens.schema;
+  whole = c.in-Ok.ensures.whole;
+  bytes = c.in-Ok.ensures.bytes;
+  safe = c.in-Ok.ensures.safe;
+}
 
-pub open_site-requires : goal.open_site-requires
-open_site-requires g c = record { in_schema = c.requires.in_schema; whole = c.in_ok-held.ensures.lines.lines.whole }
-
-pub returns-in_err-site-clause-line : goal.returns-in_err-site-clause-line
-returns-in_err-site-clause-line g c =
-    let p = err_from_is_err_and c.from_residual-in_err-site.result c.from_residual-in_err-site.ensures.1 in
-    rw (p.1, p.2)
-    (names_line c.args.schema c.args.number (g.F.LogFile.bytes c.args.log) c.in_ok-held.held.items _ c.in_ok-held.ensures.lines
-    c.in_err-site.ensures.line c.in_err-site.ensures.never)
-
-pub invariant_of-service : goal.invariant_of-service
-invariant_of-service g c =
+pub returns-in-Ok : goal.returns-in-Ok
+returns-in-Ok g c =
+    let known = g.F.LogFile.bytes c.args.log in
+    let was = g.F.LogFile.safe c.args.log in
+    let r = c.start.result in
+    let holds = c.in-Ok.ensures.lines in
+    let spared = c.in-Ok.ensures.least in
     record {
-      linked = link_opened c.args.schema c.in_ok-site.site 0 c.new-2.result.items (g.F.LogFile.bytes c.read_lines.new.log)
-          (g.F.LogFile.safe c.read_lines.new.log) c.len-settled.result c.in_ok-held.held.items c.in_ok-site.ensures.opens.schema
-          c.in_ok-site.ensures.whole c.in_ok-site.ensures.opens.bytes (omega (arith, c.len-settled.ensures, c.in_ok-held.held.ok))
-          c.in_ok-held.ensures.bytes c.in_ok-held.ensures.safe;
-      index = c.new.ensures.none c.in_ok-site.site.bytes;
+      ok = IfOk-weaker r _ _ (λ made started. is_opened c.args.schema c.args.number known c.in-Ok.site made holds c.in-Ok.ensures.opens started)
+          c.start.ensures.ok;
+      line = IfErr-weaker r _ _ (λ left none. names_not c.args.schema c.args.number known left.0 none) c.start.ensures.line;
+      safe = MatchResult-weaker r c.start.ensures.safe (λ made safe. keeps_all known was made.safe c.in-Ok.site.bytes holds safe)
+          (λ left safe. keeps_all known was (g.F.LogFile.safe left.1) c.in-Ok.site.bytes holds safe);
+      least = MatchResult-weaker r c.start.ensures.least (λ made same. subst (SparesLines known (g.F.LogFile.least c.args.log)) (sym same) spared)
+          (λ left same. subst (SparesLines known (g.F.LogFile.least c.args.log)) (sym same) spared);
+      same_bytes = IfErr-weaker r _ _ (λ left none n is. absurd (none n is)) c.start.ensures.line;
+      same_safe = IfErr-weaker r _ _ (λ left none n is. absurd (none n is)) c.start.ensures.line;
+      same_least = IfErr-weaker r _ _ (λ left none n is. absurd (none n is)) c.start.ensures.line;
+      told = c.start.ensures.told;
+      kept = c.start.ensures.kept;
+      uncut = c.start.ensures.uncut;
     }
 
-pub returns-in-Ok-clause-ok : goal.returns-in-Ok-clause-ok
-returns-in-Ok-clause-ok g c =
-    is_opened c.args.schema c.args.number (g.F.LogFile.bytes c.args.log) c.in_ok-held.held.items c.in_ok-site.site _ _ _ _ _ _ c.apply.new.self
-    c.settle_behind.new.self c.in_ok-held.ensures.lines c.in_ok-site.ensures.opens refl c.new-2.ensures.items c.in_ok-apply.ensures.ok
-    c.in-Ok.ensures.served c.in-Ok.ensures.waiting c.in-Ok.ensures.ok
-
-pub returns-in_err-apply-clause-kept : goal.returns-in_err-apply-clause-kept
-returns-in_err-apply-clause-kept g c =
+pub returns-in-Err : goal.returns-in-Err
+returns-in-Err g c =
     let trace = trace_of (g.T.LogFile.bytes c.args.trace.now) (g.T.LogFile.safe c.args.trace.now) in
-    let p = err_from_is_err_and c.from_residual-in_err-apply.result c.from_residual-in_err-apply.ensures.1 in
-    rw p.1 (kept_of trace trace [] (told_none trace))
+    record {
+      ok = tt;
+      line = c.in-Err.ensures.line;
+      safe = c.in-Err.ensures.kept;
+      least = c.in-Err.ensures.least;
+      same_bytes = c.in-Err.ensures.same_bytes;
+      same_safe = c.in-Err.ensures.same_safe;
+      same_least = c.in-Err.ensures.same_least;
+      told = tt;
+      kept = kept_of trace trace [] (told_none trace);
+      uncut = refl;
+    }

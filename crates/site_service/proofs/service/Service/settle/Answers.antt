@@ -10,7 +10,7 @@ returns-then-self-all-clause-ok g c =
     let s = c.self.inside in
     let is : c.bytes-held.result.now ≡ s.site.bytes = c.bytes-held.ensures.bytes ∙ c.medium.ensures.bytes in
     subst IsSettled c.self.view_is
-    (link_all s.schema s.site s.lines s.waiting.items (g.F.LogFile.bytes s.log) (g.F.LogFile.safe s.log) s.settled s.lost c.self.invariant.linked
+    (link_all s.schema s.site s.lines s.waiting.items (g.F.LogFile.bytes s.log) (g.F.LogFile.safe s.log) (g.F.LogFile.least s.log) s.settled s.lost c.self.invariant.linked
     c.if-self.false (c.if-self-all.true ∙ ap length is))
 
 pub invariant_of-self : goal.invariant_of-self
@@ -19,8 +19,8 @@ invariant_of-self g c =
     let is : c.bytes-held.result.now ≡ s.site.bytes = c.bytes-held.ensures.bytes ∙ c.medium.ensures.bytes in
     let rest = take_rest c.bytes-held.result.now s.settled ∙ ap (drop s.settled) is in
     record {
-      linked = (link_follows s.schema s.site s.lines s.waiting.items (g.F.LogFile.bytes s.log) (g.F.LogFile.safe s.log) s.settled s.lost
-          c.self.invariant.linked (g.F.LogFile.bytes c.add_safely.new.file) c.if-self.false
+      linked = (link_follows s.schema s.site s.lines s.waiting.items (g.F.LogFile.bytes s.log) (g.F.LogFile.safe s.log) (g.F.LogFile.least s.log) s.settled s.lost
+          c.self.invariant.linked (g.F.LogFile.least c.add_safely.new.file) (g.F.LogFile.bytes c.add_safely.new.file) c.if-self.false
           (c.in-Ok.ensures.added ∙ ap (append_known (g.F.LogFile.bytes s.log)) rest) (g.F.LogFile.safe c.add_safely.new.file)
           c.in-Ok.ensures.safe (length c.bytes-held.result.now) (ap length is)).0;
       index = c.self.invariant.index;
@@ -31,8 +31,8 @@ returns-in-Ok-clause-ok g c =
     let s = c.self.inside in
     let is : c.bytes-held.result.now ≡ s.site.bytes = c.bytes-held.ensures.bytes ∙ c.medium.ensures.bytes in
     let rest = take_rest c.bytes-held.result.now s.settled ∙ ap (drop s.settled) is in
-    (link_follows s.schema s.site s.lines s.waiting.items (g.F.LogFile.bytes s.log) (g.F.LogFile.safe s.log) s.settled s.lost c.self.invariant.linked
-    (g.F.LogFile.bytes c.add_safely.new.file) c.if-self.false
+    (link_follows s.schema s.site s.lines s.waiting.items (g.F.LogFile.bytes s.log) (g.F.LogFile.safe s.log) (g.F.LogFile.least s.log) s.settled s.lost c.self.invariant.linked
+    (g.F.LogFile.least c.add_safely.new.file) (g.F.LogFile.bytes c.add_safely.new.file) c.if-self.false
     (c.in-Ok.ensures.added ∙ ap (append_known (g.F.LogFile.bytes s.log)) rest) (g.F.LogFile.safe c.add_safely.new.file) c.in-Ok.ensures.safe
     (length c.bytes-held.result.now) (ap length is)).1
 
@@ -40,7 +40,7 @@ pub invariant_of-self-in-Err : goal.invariant_of-self-in-Err
 invariant_of-self-in-Err g c =
     let s = c.self.inside in
     record {
-      linked = link_lost s.schema s.site s.lines s.waiting.items (g.F.LogFile.bytes s.log) (g.F.LogFile.safe s.log) s.settled s.lost
-          c.self.invariant.linked (g.F.LogFile.bytes c.add_safely.new.file) (g.F.LogFile.safe c.add_safely.new.file) c.in-Err.ensures.kept;
+      linked = link_lost s.schema s.site s.lines s.waiting.items (g.F.LogFile.bytes s.log) (g.F.LogFile.safe s.log) (g.F.LogFile.least s.log) s.settled s.lost
+          c.self.invariant.linked (g.F.LogFile.least c.add_safely.new.file) (g.F.LogFile.bytes c.add_safely.new.file) (g.F.LogFile.safe c.add_safely.new.file) c.in-Err.ensures.kept;
       index = c.self.invariant.index;
     }
