@@ -7,6 +7,3 @@
 mod journal;
 
 pub use journal::Journal;
-
-#[cfg(test)]
-mod tests;

@@ -11,6 +11,3 @@ mod ledger;
 
 pub use account::{Account, FieldAccounts, LedgerFull};
 pub use ledger::Ledger;
-
-#[cfg(test)]
-mod tests;

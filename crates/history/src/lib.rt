@@ -8,6 +8,3 @@ mod unkept;
 
 pub use ghost_history::GhostHistory;
 pub use trait_history::History;
-
-#[cfg(test)]
-mod tests;

@@ -9,6 +9,3 @@ mod words;
 pub use first::{behind, first_number, first_signed, number_and};
 pub use number::{read_dotted, read_number, read_signed};
 pub use words::Words;
-
-#[cfg(test)]
-mod tests;

@@ -2,7 +2,5 @@
 #![tactic(auto)]
 
 mod stand;
-#[cfg(test)]
-mod tests;
 
 pub use stand::{Stand, stand_of};

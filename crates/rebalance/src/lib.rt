@@ -10,6 +10,3 @@ mod spare;
 
 pub use even_plan::{Move, plan_even};
 pub use spare::spare_amount;
-
-#[cfg(test)]
-mod tests;

@@ -6,6 +6,3 @@ mod rows;
 mod set;
 
 pub use set::StatementSet;
-
-#[cfg(test)]
-mod tests;

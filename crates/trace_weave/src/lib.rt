@@ -12,6 +12,3 @@ pub use laws::weaves_are_sound;
 pub use order::weave_order;
 pub use walk::WovenEntries;
 pub use weaving::weave;
-
-#[cfg(test)]
-mod tests;

@@ -1,4 +1,4 @@
-use super::*;
+use escrow_journal::Journal;
 use field_bounds::{Escrow, FieldNo, MAX_ESCROWS, MAX_OPEN, TxnId};
 use std::alloc::Global;
 

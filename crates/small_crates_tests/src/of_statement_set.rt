@@ -1,5 +1,5 @@
-use crate::StatementSet;
 use field_bounds::{Command, Entry, FieldNo, Kind, Refusal, Reply, SiteNo, Statement};
+use statement_set::StatementSet;
 use std::alloc::{AllocError, Global};
 
 const GIVEN: Statement = Statement {

@@ -1,6 +1,6 @@
 //! Both kinds of history, through the trait.
 
-use crate::{GhostHistory, History};
+use history::{GhostHistory, History};
 use std::alloc::{AllocError, Global};
 
 // What was added, and how often.

@@ -1,7 +1,7 @@
-use super::*;
 use field_bounds::{Command, Entry, FieldNo, Kind, Reply, SiteNo, Statement, TxnId};
 use std::alloc::{AllocError, Global};
 use std::process::Abort;
+use trace_weave::{WeaveFault, WovenEntries, weave, weave_order};
 
 /// An entry of a site that accepts 5 rights to lower of another.
 fn accepts(site: u16, from: u16, reply: Reply) -> Entry {

@@ -1,6 +1,6 @@
 //! Each expected answer is worked out by hand from the definitions.
 
-use super::{Stand, stand_of};
+use log_stand::{Stand, stand_of};
 
 #[test]
 fn a_stand_is_told(rt: HostRuntime) {

@@ -1,4 +1,6 @@
-use super::*;
+use line_words::{
+    Words, behind, first_number, first_signed, number_and, read_dotted, read_number, read_signed,
+};
 use std::process::Abort;
 use std::test::Fail;
 

@@ -2,7 +2,7 @@
 
 ghost use Rattle.std.specs.Prelude.{◌^◌, ◌<◌, sum};
 
-use crate::{Move, plan_even, spare_amount};
+use rebalance::{Move, plan_even, spare_amount};
 use std::alloc::AllocError;
 use std::test::Fail;
 

@@ -2,8 +2,8 @@
 
 ghost use Rattle.gift_ledger.specs.Ledger.{IsSlot};
 
-use super::*;
 use field_bounds::{FieldNo, FieldSpec, Kind, Schema, SiteNo};
+use gift_ledger::{Ledger, LedgerFull};
 use std::test::Fail;
 
 const STOCK: FieldNo = FieldNo(0);
@@ -11,7 +11,7 @@ const STOCK: FieldNo = FieldNo(0);
 const OTHER: SiteNo = SiteNo(1);
 
 /// Gives 3 and then 2 to the other site, and tells it again.
-#[tactic(auto, using(crate::proofs::LedgerLaws::place_stays))]
+#[tactic(auto, using(gift_ledger::proofs::LedgerLaws::place_stays))]
 fn given_five(ledger: &mut Ledger) -> Option<u64>
     requires place { IsSlot ledger.old 1 0 }
     ensures place { IsSlot ledger.new 1 0 }
@@ -22,7 +22,7 @@ fn given_five(ledger: &mut Ledger) -> Option<u64>
 }
 
 /// The gains from the totals 5, 3 and 7 of the other site.
-#[tactic(auto, using(crate::proofs::LedgerLaws::place_stays))]
+#[tactic(auto, using(gift_ledger::proofs::LedgerLaws::place_stays))]
 fn gains(ledger: &mut Ledger) -> (u64, u64, u64)
     requires place { IsSlot ledger.old 1 0 }
     ensures place { IsSlot ledger.new 1 0 }
@@ -34,7 +34,7 @@ fn gains(ledger: &mut Ledger) -> (u64, u64, u64)
 }
 
 /// What is answered after 500 gifts that reach the greatest total, to one right more.
-#[tactic(auto, using(crate::proofs::LedgerLaws::place_stays))]
+#[tactic(auto, using(gift_ledger::proofs::LedgerLaws::place_stays))]
 fn overfull(ledger: &mut Ledger) -> Option<LedgerFull>
     requires place { IsSlot ledger.old 1 0 }
 {
@@ -47,7 +47,7 @@ fn overfull(ledger: &mut Ledger) -> Option<LedgerFull>
 }
 
 #[test]
-#[tactic(auto, using(crate::proofs::LedgerLaws::fresh_place))]
+#[tactic(auto, using(gift_ledger::proofs::LedgerLaws::fresh_place))]
 fn first_of_two_sites(rt: HostRuntime) -> Result<(), Fail> {
     let field = FieldSpec {
         name: String::from_str(rt.alloc(), "stock")?,
