@@ -1,6 +1,5 @@
 -- The entries of lines, one more line at a time, and what the reading finds.
 use Rattle.std.proofs.Common.{◌≡◌, ℕ, ◌+◌, ◌<◌, List, [], ◌∷◌, ◌++◌, Option, Bool, true, length, ◌⊎◌, inl, inr, refl, sym, ap, subst, ◌∙◌, arith}
-use Rattle.std.specs.Io.KnownBytes.{Consumes}
 use Rattle.field_bounds.specs.Schema.{SchemaValue}
 use Rattle.field_bounds.specs.declared.entry.Entry.{Entry}
 use Rattle.entry_text.specs.Lines.{max_line}
@@ -87,8 +86,10 @@ module _ {E : Type 0} (taken : SchemaValue → List Entry → E → Type 0) (fro
       bad_next line number place
       (record { no_entry = λ entry is. omega (arith, is.short, size); no_remark = λ is. omega (arith, is.short, size) }) next
 
-pub faults_no_memory : (from to : Option (List ℕ)) (last : End) (read : List ℕ) → Consumes from to read → FaultsIn from to last NoMemory
-faults_no_memory from to last read consumed = ([], (inl refl, stops_no_memory from to last read consumed))
+-- ---- want of memory
+
+pub faults_no_memory : (keeps : Bool) (from to : Option (List ℕ)) (last : End) → WantsAt keeps from to → FaultsIn from to last NoMemory
+faults_no_memory keeps from to last wants = (wants.given, (wants.good, stops_no_memory from to last wants.given wants.no_further))
 
 -- for the header
 pub wants_header : (keeps : Bool) (from to : Option (List ℕ)) → ReadsNoFurther from to [] → WantsAt keeps from to

@@ -135,7 +135,8 @@ abbrev pub IsGood : List (List ℕ) → Type 0
 IsGood lines = (lines ≡ []) ⊎ ((schema : SchemaValue) × ((entries : List Entry) × HasEntries schema entries lines))
 
 -- At a write fault a front of the answer is written, which keeps the limits as it does where all of it is. At every other
--- fault nothing is, and the lines in front of it have no bad entry.
+-- fault nothing is, and the lines in front of it have no bad entry. At want of memory these are all lines but those that end in the
+-- last 65,536 bytes that were read, at most (`Explains`).
 abbrev pub LeavesFor : ScriptFault → Option (List ℕ) → Option (List ℕ) → List ℕ → List ℕ → Type 0 → Type 0
 LeavesFor faults.Write before after front back ended =
     (end : AuditEnd) × ((text : List ℕ) × ((back ≡ []) × (IsWithinAt end front × (IsAudit end front ended text

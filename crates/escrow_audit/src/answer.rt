@@ -217,9 +217,10 @@ fn answer<R: Source>(
 ///
 /// The faults are those of the input, line by line: `Header` and `NoMemory`; `TooLong` where a byte
 /// follows the 1,000,000th line or the 268,435,456th byte; `Read` where a read answers an error of
-/// any kind, which isn't tried again. At each of them nothing is written. `Write` comes where a
-/// write answers an error of any kind or takes no byte; then a front of the answer was written. The
-/// others, which are a work's alone, never come.
+/// any kind, which isn't tried again. At each of them nothing is written, and no line before it is a
+/// bad entry: at `NoMemory` none that ends in front of the last 65,536 bytes that were read. `Write`
+/// comes where a write answers an error of any kind or takes no byte; then a front of the answer was
+/// written. The others, which are a work's alone, never come.
 ///
 /// Reader and writer tell the contract how their calls end, and how many failed; `Watched::new`
 /// makes such ones of std's. No call is made again after one that failed.

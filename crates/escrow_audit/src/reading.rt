@@ -1,6 +1,6 @@
 //! The reading of an input, line by line.
 
-ghost use Rattle.std.specs.Prelude.{◌≡◌, ◌≢◌, ◌∷◌, ◌++◌, [], IfOk, IfErr, OnErr, true, false};
+ghost use Rattle.std.specs.Prelude.{◌≡◌, ◌≢◌, ◌∷◌, ◌++◌, [], IfOk, IfErr, OnOk, OnErr, true, false};
 ghost use Rattle.script_input.specs.Streams.{HasFailed};
 ghost use Rattle.script_input.specs.Faults.{CountsReads};
 ghost use Rattle.escrow_audit.specs.Reading.{TakesIn, FindsIn, FaultsIn, WantsAt};
@@ -58,6 +58,9 @@ pub(crate) fn read_entries<R: Source, E: TakesEntries>(
         → HasFailed (R.last reader.new)) }
     ensures reads { CountsReads result (R.failures reader.old) (R.failures reader.new) }
     ensures other { IfErr result (λ fault. fault ≢ ScriptFault.Write) }
+
+    // The lines in front of the last piece that was read are good.
+    ensures no_further { OnOk result (WantsAt true (R.bytes reader.old) (R.bytes reader.new)) }
 
     // Where no entry is kept, want of memory comes for the header alone.
     ensures memory { IfErr result (λ fault. fault ≡ ScriptFault.NoMemory

@@ -14,7 +14,7 @@ use Rattle.script_input.specs.Faults.{HasEndedAt}
 use Rattle.script_input.specs.Streams.{AppendsPrefix}
 use Rattle.script_input.specs.Reader.{pending, Reads, GivesLine, StopsAt}
 use Rattle.script_input.proofs.FaultLemmas.{explains_within}
-use Rattle.script_input.proofs.ReaderLemmas.{behind_passed, within_gone}
+use Rattle.script_input.proofs.ReaderLemmas.{within_gone}
 use Rattle.world_steps.specs.View.{WorldValue}
 use Rattle.escrow_run.specs.declared.script.Script.{Script}
 use Rattle.escrow_run.specs.Text.{line_text, HasText, IsTextOf}
@@ -100,17 +100,7 @@ memory_at_line from to last r given most line = record {
   back = line.back;
   consumed = line.consumed;
   whole = line.whole;
-  why = line.within;
-}
-
-pub memory_at_long : (from to : Option (List ℕ)) (last : End) (r : LineReader) (given : List (List ℕ)) → Reads from to last r given
-    → 0 < r.passed → StopsAt from to last given NoMemory
-memory_at_long from to last r given reads some = record {
-  front = reads.gone;
-  back = pending r;
-  consumed = reads.consumed;
-  whole = sym (behind_passed from to last r given reads some).whole;
-  why = within_gone from to last r given reads;
+  why = (line.within, line.near);
 }
 
 -- ---- a write that failed

@@ -96,7 +96,8 @@ pub record Answers (from to before after : Option (List ℕ)) : Type 0 where
   pub written : Appends before after text
 
 -- At a write fault a front of the text is written, of the whole lines in front of the fault or of the whole
--- input, which are within the limits, and else the text of the whole lines in front of the fault.
+-- input, which are within the limits, and else the text of the whole lines in front of the fault. At want of memory these are all
+-- lines but those that end in the last 65,536 bytes that were read, at most (`Explains`).
 abbrev pub WritesFor : ScriptFault → Option (List ℕ) → Option (List ℕ) → List ℕ → List ℕ → Type 0
 WritesFor Write before after front back =
     IsWithin front × (LeavesPrefix before after (whole_lines front) ⊎ ((back ≡ []) × LeavesPrefix before after (script_lines front)))

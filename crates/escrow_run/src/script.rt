@@ -164,9 +164,10 @@ impl Script {
 /// The faults are those of the input, line by line: `Header` and `NoMemory`; `TooLong` where a byte
 /// follows the 1,000,000th line or the 268,435,456th byte; `Read` where a read answers an error of
 /// any kind, which isn't tried again. At each of them the text of the whole lines before it was
-/// written, and at `Header` nothing. `Write` comes where a write answers an error of any kind or
-/// takes no byte; then a front of the text was written. The others, which are a work's alone, never
-/// come.
+/// written, and at `Header` nothing. `NoMemory` comes before more is read than the line that met it
+/// needs: so each line that ends in front of the last 65,536 bytes that were read was answered.
+/// `Write` comes where a write answers an error of any kind or takes no byte; then a front of the
+/// text was written. The others, which are a work's alone, never come.
 ///
 /// Reader and writer tell the contract how their calls end, and how many failed; `Watched::new`
 /// makes such ones of std's. No call is made again after one that failed.
@@ -191,7 +192,8 @@ pub fn run_script<R: Source, W: Sink>(
     // That is so only after a read that had room and gave nothing.
     ensures end { OnOk result (GaveNothing (R.last reader.new)) }
 
-    // A fault comes for a reason, and the text of the whole lines before it is written.
+    // A fault comes for a reason, and the text of the whole lines before it is written: at want of
+    // memory of all lines but those that end in the last 65,536 bytes that were read, at most.
     ensures fault { IfErr result (Fails (R.bytes reader.old) (R.bytes reader.new)
         (W.bytes writer.old) (W.bytes writer.new) (R.last reader.new)) }
 

@@ -1,6 +1,5 @@
 -- What lines ask, one more line at a time, and the first bad one.
-use Rattle.std.proofs.Common.{◌≡◌, ◌≢◌, ℕ, ◌+◌, ◌<◌, List, [], ◌∷◌, ◌++◌, Option, length, inl, refl, sym, ap, subst, ◌∙◌, arith}
-use Rattle.std.specs.Io.KnownBytes.{Consumes}
+use Rattle.std.proofs.Common.{◌≡◌, ◌≢◌, ℕ, ◌+◌, ◌<◌, List, [], ◌∷◌, ◌++◌, Option, length, ◌⊎◌, inl, inr, refl, sym, ap, subst, ◌∙◌, arith}
 use Rattle.field_bounds.specs.Schema.{SchemaValue}
 use Rattle.field_bounds.specs.declared.id.SiteNo.{SiteNo}
 use Rattle.field_bounds.specs.declared.entry.Command.{Command}
@@ -11,12 +10,12 @@ use Rattle.script_input.specs.declared.fault.ScriptFault.TheVariants as faults
 use Rattle.script_input.specs.declared.streams.End.{End}
 use Rattle.script_input.specs.declared.reader.LineReader.{LineReader}
 use Rattle.script_input.specs.Faults.{Explains, HasEndedAt}
-use Rattle.script_input.specs.Reader.{Reads, StopsAt}
+use Rattle.script_input.specs.Reader.{Reads, ReadsNoFurther, StopsAt}
 use Rattle.script_input.proofs.NextLemmas.{HasNext, next_given, next_long, stops_no_memory}
 use Rattle.escrow_work.specs.declared.scripts.Scripts.{Scripts}
 use Rattle.escrow_work.specs.Scripts.{IsPlain, IsBadLine, AreAsked, HasScripts, with_command}
 use Rattle.escrow_work.specs.Work.{IsGood, FindsBad, FaultIn, TellsOf, FaultsIn}
-use Rattle.escrow_work.specs.Reading.{Holds}
+use Rattle.escrow_work.specs.Reading.{Holds, WantsAt}
 use Rattle.escrow_work.proofs.Dealt.{dealt_more}
 
 asked_more : (schema : SchemaValue) (lines : List (List ℕ)) (line : List ℕ) (asked : List (SiteNo × Command))
@@ -75,9 +74,24 @@ stops_good from to last given fault good other stops = (stops.front ++ stops.bac
     told faults.Illegal other why = absurd why
     told faults.NoMemory other why = in_front faults.NoMemory other why
 
-pub stops_memory : (from to : Option (List ℕ)) (last : End) (read : List ℕ) → Consumes from to read → FaultsIn from to last faults.NoMemory
-stops_memory from to last read consumed =
-    stops_good from to last [] faults.NoMemory (inl refl) (λ h. cc) (stops_no_memory from to last read consumed)
+-- want of memory
+pub stops_memory : (from to : Option (List ℕ)) (last : End) → WantsAt from to → FaultsIn from to last faults.NoMemory
+stops_memory from to last wants =
+    stops_good from to last wants.given faults.NoMemory wants.good (λ h. cc) (stops_no_memory from to last wants.given wants.no_further)
+
+-- for the header
+pub wants_header : (from to : Option (List ℕ)) → ReadsNoFurther from to [] → WantsAt from to
+wants_header from to reads = record { given = []; good = inl refl; no_further = reads }
+
+-- for a line behind it
+pub wants_on : (from was to : Option (List ℕ)) (scripts : Scripts) (given : List (List ℕ)) → Holds scripts given → WantsAt from was
+    → (to ≡ was) ⊎ ReadsNoFurther from to given → WantsAt from to
+wants_on from was to scripts given holds wants (inl same) = subst (λ (t : Option (List ℕ)). WantsAt from t) (sym same) wants
+wants_on from was to scripts given holds wants (inr reads) = record {
+  given = given;
+  good = inr (scripts.schema, (scripts.header.items, (scripts_of scripts.rows.items, holds)));
+  no_further = reads;
+}
 
 module _ (from to : Option (List ℕ)) (last : End) (r : LineReader) (scripts : Scripts) (given : List (List ℕ))
     (holds : Holds scripts given) where

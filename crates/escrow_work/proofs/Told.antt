@@ -13,7 +13,7 @@ use Rattle.script_input.specs.Faults.{HasEndedAt}
 use Rattle.site_workers.specs.Scripts.{scripts_of, ScriptsFit}
 use Rattle.escrow_work.specs.declared.scripts.Scripts.{Scripts}
 use Rattle.escrow_work.specs.Work.{entries_text, work_text, IsAsked, MakesNone, FaultsIn}
-use Rattle.escrow_work.specs.Reading.{Holds, ReadsThrough}
+use Rattle.escrow_work.specs.Reading.{Holds, ReadsThrough, WantsAt}
 use Rattle.escrow_work.proofs.Dealt.{dealt_fit}
 use Rattle.escrow_work.proofs.Asked.{stops_memory}
 
@@ -49,8 +49,8 @@ fit_through from to last w through =
     (dealt_fit w.schema holds.behind holds.asked holds.each)
 
 pub faults_through : (from to : Option (List ℕ)) (last : End) (w : Scripts) (fault : ScriptFault) → ReadsThrough from to last w
-    → MakesNone w.schema (scripts_of w.rows.items) fault → FaultsIn from to last fault
-faults_through from to last w fault through none = told fault none
+    → WantsAt from to → MakesNone w.schema (scripts_of w.rows.items) fault → FaultsIn from to last fault
+faults_through from to last w fault through wants none = told fault none
   where
     asked : IsAsked w.schema (scripts_of w.rows.items) through.0 (HasEndedAt to last)
     asked = record { header = w.header.items; good = through.1.1.1.1; within = through.1.1.1.0; at = through.1.1.0 }
@@ -64,4 +64,4 @@ faults_through from to last w fault through none = told fault none
     told (faults.Work fault) none = (through.0, (through.1.0, (none, (w.schema, (scripts_of w.rows.items, asked)))))
     told faults.Stuck none = (through.0, (through.1.0, (w.schema, (scripts_of w.rows.items, (asked, none)))))
     told faults.Illegal none = absurd none
-    told faults.NoMemory none = stops_memory from to last through.0 through.1.0
+    told faults.NoMemory none = stops_memory from to last wants

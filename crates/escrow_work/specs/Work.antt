@@ -87,7 +87,8 @@ abbrev pub IsGood : List (List ℕ) → Type 0
 IsGood lines = (lines ≡ []) ⊎ ((schema : SchemaValue) × ((header : List ℕ) × ((scripts : List (List Command))
     × HasScripts schema header scripts lines)))
 
--- A fault of the input: what was read is the front and the back, where it came, and the whole lines of the front are good.
+-- A fault of the input: what was read is the front and the back, where it came, and the whole lines of the front are good. At want
+-- of memory, in the work too, these are all lines but those that end in the last 65,536 bytes that were read, at most (`Explains`).
 pub record FaultIn (fault : ScriptFault) (read : List ℕ) (ended : Type 0) : Type 0 where
   pub front : List ℕ
   pub back : List ℕ

@@ -1,9 +1,9 @@
 //! The reading of an input, line by line.
 
-ghost use Rattle.std.specs.Prelude.{◌≡◌, ◌≢◌, IfOk, IfErr};
+ghost use Rattle.std.specs.Prelude.{◌≡◌, ◌≢◌, IfOk, IfErr, OnOk};
 ghost use Rattle.script_input.specs.Streams.{HasFailed};
 ghost use Rattle.script_input.specs.Faults.{CountsReads};
-ghost use Rattle.escrow_work.specs.Reading.{ReadsThrough};
+ghost use Rattle.escrow_work.specs.Reading.{ReadsThrough, WantsAt};
 ghost use Rattle.escrow_work.specs.Work.{FaultsIn};
 
 use crate::scripts::Scripts;
@@ -17,6 +17,9 @@ pub(crate) fn read_scripts<R: Source>(alloc: Global, reader: &mut R) -> Result<S
         (R.last reader.new)) }
     ensures fault { IfErr result (FaultsIn (R.bytes reader.old) (R.bytes reader.new)
         (R.last reader.new)) }
+
+    // The lines in front of the last piece that was read are good.
+    ensures no_further { OnOk result (WantsAt (R.bytes reader.old) (R.bytes reader.new)) }
     ensures failed { IfErr result (λ fault. fault ≡ ScriptFault.Read
         → HasFailed (R.last reader.new)) }
     ensures reads { CountsReads result (R.failures reader.old) (R.failures reader.new) }

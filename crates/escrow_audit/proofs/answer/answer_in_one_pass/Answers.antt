@@ -1,4 +1,4 @@
-use Rattle.std.proofs.Common.{subst, false}
+use Rattle.std.proofs.Common.{subst, true, false}
 use Rattle.std.proofs.lemmas.Result.{err_from_is_err_and}
 use Rattle.escrow_audit.specs.Judged.{AreJudged}
 use Rattle.escrow_audit.specs.Reading.{FindsIn}
@@ -8,10 +8,9 @@ use Rattle.escrow_audit.proofs.answer.answer_in_one_pass.Goals as goal
 
 pub returns-in_err-tell_judged-in-Entries-clause-fault : goal.returns-in_err-tell_judged-in-Entries-clause-fault
 returns-in_err-tell_judged-in-Entries-clause-fault g c =
-    let found = c.in_ok-judged.ensures.ok in
     let p = err_from_is_err_and c.from_residual-in_err-tell_judged-in-Entries.result
     c.from_residual-in_err-tell_judged-in-Entries.ensures.1 in
-    rw (p.1, p.2) (faults_no_memory _ _ _ found.0 found.1.0)
+    rw (p.1, p.2) (faults_no_memory true _ _ _ c.in_ok-judged.ensures.no_further)
 
 pub returns-in-Entries-clause-ok : goal.returns-in-Entries-clause-ok
 returns-in-Entries-clause-ok g c =
@@ -26,10 +25,9 @@ returns-in-Entries-clause-ok g c =
 
 pub returns-in_err-bad_entry-in-BadEntry-clause-fault : goal.returns-in_err-bad_entry-in-BadEntry-clause-fault
 returns-in_err-bad_entry-in-BadEntry-clause-fault g c =
-    let found = c.in_ok-judged.ensures.ok in
     let p = err_from_is_err_and c.from_residual-in_err-bad_entry-in-BadEntry.result
     c.from_residual-in_err-bad_entry-in-BadEntry.ensures.1 in
-    rw (p.1, p.2) (faults_no_memory _ _ _ found.0 found.1.0)
+    rw (p.1, p.2) (faults_no_memory true _ _ _ c.in_ok-judged.ensures.no_further)
 
 pub returns-in_err-tell_judged-in-Entries-clause-memory : goal.returns-in_err-tell_judged-in-Entries-clause-memory
 returns-in_err-tell_judged-in-Entries-clause-memory g c =

@@ -1,5 +1,4 @@
-use Rattle.std.proofs.Common.{◌+◌, [], ◌∷◌, ◌++◌, Ok, refl, sym, ◌∙◌, subst, inl, arith}
-use Rattle.std.proofs.KnownBytes.{Consumes-nil}
+use Rattle.std.proofs.Common.{◌+◌, [], ◌∷◌, ◌++◌, Ok, true, refl, sym, ◌∙◌, subst, inl, arith}
 use Rattle.std.proofs.lemmas.List.{length_push}
 use Rattle.std.proofs.lemmas.Result.{err_from_is_err_and}
 use Rattle.script_input.specs.Reader.{given_line, Nexts}
@@ -13,7 +12,7 @@ pub returns-in_err-lines-clause-fault : goal.returns-in_err-lines-clause-fault
 returns-in_err-lines-clause-fault g c =
     let from = g.R.Source.bytes c.args.reader.now in
     let p = err_from_is_err_and c.from_residual.result c.from_residual.ensures.1 in
-    rw (p.1, p.2) (faults_no_memory from from (g.R.Source.last c.args.reader.now) [] (Consumes-nil from))
+    rw (p.1, p.2) (faults_no_memory true from from (g.R.Source.last c.args.reader.now) (wants_header true from from (no_further_none from from (inl refl))))
 
 pub returns-in_err-note-in-Line-clause-fault : goal.returns-in_err-note-in-Line-clause-fault
 returns-in_err-note-in-Line-clause-fault g c =
@@ -21,10 +20,9 @@ returns-in_err-note-in-Line-clause-fault g c =
     let to = g.R.Source.bytes c.next.new.reader in
     let last = g.R.Source.last c.next.new.reader in
     let inv = c.lines.invariant in
-    let line = subst (λ n. Nexts from to last inv.given c.lines.lines c.next.new.self 256 (Ok n)) c.in-Line.is
-    (c.in_ok-next.ensures.next from inv.given inv.reads) in
     let p = err_from_is_err_and c.from_residual-in_err-note-in-Line.result c.from_residual-in_err-note-in-Line.ensures.1 in
-    rw (p.1, p.2) (faults_no_memory from to last (line.front ++ line.back) line.consumed)
+    rw (p.1, p.2) (faults_no_memory true from to last
+    (wants_on from _ to c.lines.schema inv.entries inv.given inv.has inv.wants (c.in_ok-next.ensures.no_further from inv.given inv.reads)))
 
 pub returns-then-not-branch-clause-ok : goal.returns-then-not-branch-clause-ok
 returns-then-not-branch-clause-ok g c =
@@ -106,3 +104,24 @@ returns-in_err-note-in-Line-clause-memory g c =
     let p = err_from_is_err_and c.from_residual-in_err-note-in-Line.result c.from_residual-in_err-note-in-Line.ensures.1 in
     rw (p.1, p.2) (λ e. wants_entry g.E.TakesEntries.keeps from to c.in_err-note-in-Line.ensures.told
     (wants_on from _ to c.lines.schema inv.entries inv.given inv.has inv.wants (c.in_ok-next.ensures.no_further from inv.given inv.reads)))
+
+pub returns-then-not-branch-clause-no_further : goal.returns-then-not-branch-clause-no_further
+returns-then-not-branch-clause-no_further g c =
+    let from = g.R.Source.bytes c.args.reader.now in
+    let inv = c.lines.invariant in
+    wants_on from _ (g.R.Source.bytes c.next.new.reader) c.lines.schema inv.entries inv.given inv.has inv.wants
+    (c.in_ok-next.ensures.no_further from inv.given inv.reads)
+
+pub returns-in-Long-clause-no_further : goal.returns-in-Long-clause-no_further
+returns-in-Long-clause-no_further g c =
+    let from = g.R.Source.bytes c.args.reader.now in
+    let inv = c.lines.invariant in
+    wants_on from _ (g.R.Source.bytes c.next.new.reader) c.lines.schema inv.entries inv.given inv.has inv.wants
+    (c.in_ok-next.ensures.no_further from inv.given inv.reads)
+
+pub returns-in-End-clause-no_further : goal.returns-in-End-clause-no_further
+returns-in-End-clause-no_further g c =
+    let from = g.R.Source.bytes c.args.reader.now in
+    let inv = c.lines.invariant in
+    wants_on from _ (g.R.Source.bytes c.next.new.reader) c.lines.schema inv.entries inv.given inv.has inv.wants
+    (c.in_ok-next.ensures.no_further from inv.given inv.reads)

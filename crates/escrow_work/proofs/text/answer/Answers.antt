@@ -7,5 +7,6 @@ made-requires-clause-fit g c κs within = fit_through _ _ _ c.in_ok-scripts.scri
 
 pub returns-clause-fault : goal.returns-clause-fault
 returns-clause-fault g c =
-    IfErr-weaker c.made.result _ _ (λ fault none. faults_through _ _ _ c.in_ok-scripts.scripts fault c.in_ok-scripts.ensures.ok none)
+    IfErr-weaker c.made.result _ _ (λ fault none. faults_through _ _ _ c.in_ok-scripts.scripts fault c.in_ok-scripts.ensures.ok
+    c.in_ok-scripts.ensures.no_further none)
     c.made.ensures.fault

@@ -1,8 +1,9 @@
-use Rattle.std.proofs.Common.{◌≡◌, [], ◌∷◌, ◌++◌, Ok, reverse, sym, ap, ◌∙◌, subst, inl}
-use Rattle.std.proofs.KnownBytes.{Appends-nil, Consumes-nil}
+use Rattle.std.proofs.Common.{◌≡◌, [], ◌∷◌, ◌++◌, Ok, reverse, refl, sym, ap, ◌∙◌, subst, inl}
+use Rattle.std.proofs.KnownBytes.{Appends-nil}
 use Rattle.std.proofs.lemmas.Result.{err_from_is_err_and}
 use Rattle.field_bounds.specs.Header.{schema_of}
 use Rattle.script_input.specs.Reader.{given_line}
+use Rattle.script_input.proofs.ReaderLemmas.{no_further_none}
 use Rattle.script_input.proofs.NextLemmas.{stops_no_memory}
 use Rattle.escrow_run.specs.Text.{line_text, HasText}
 use Rattle.escrow_run.proofs.TextLemmas.{HasText-start}
@@ -12,17 +13,17 @@ pub returns-in_err-lines-clause-err : goal.returns-in_err-lines-clause-err
 returns-in_err-lines-clause-err g c =
     let from = g.R.Source.bytes c.args.reader.now in
     let p = err_from_is_err_and c.from_residual.result c.from_residual.ensures.1 in
-    rw (p.1, p.2) (stops_no_memory from from (g.R.Source.last c.args.reader.now) [] (Consumes-nil from))
+    rw (p.1, p.2) (stops_no_memory from from (g.R.Source.last c.args.reader.now) [] (no_further_none from from (inl refl)))
 
 pub returns-in_err-machine-clause-err : goal.returns-in_err-machine-clause-err
 returns-in_err-machine-clause-err g c =
     let p = err_from_is_err_and c.from_residual-in_err-machine.result c.from_residual-in_err-machine.ensures.1 in
-    rw (p.1, p.2) (stops_no_memory _ _ _ _ c.in_ok-schema.ensures.ok.reads.consumed)
+    rw (p.1, p.2) (stops_no_memory _ _ _ _ c.in_ok-schema.ensures.no_further)
 
 pub returns-in_err-add_line-clause-err : goal.returns-in_err-add_line-clause-err
 returns-in_err-add_line-clause-err g c =
     let p = err_from_is_err_and c.from_residual-in_err-add_line.result c.from_residual-in_err-add_line.ensures.1 in
-    rw (p.1, p.2) (stops_no_memory _ _ _ _ c.in_ok-schema.ensures.ok.reads.consumed)
+    rw (p.1, p.2) (stops_no_memory _ _ _ _ c.in_ok-schema.ensures.no_further)
 
 pub returns-clause-ok : goal.returns-clause-ok
 returns-clause-ok g c = λ before.

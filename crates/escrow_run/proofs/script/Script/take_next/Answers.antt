@@ -2,8 +2,9 @@ use Rattle.std.proofs.Common.{[], ◌∷◌, ◌++◌, Ok, Some, refl, sym, ap, 
 use Rattle.std.proofs.lemmas.Result.{err_from_is_err_and}
 use Rattle.script_input.specs.declared.fault.ScriptFault.TheVariants as faults
 use Rattle.script_input.specs.Reader.{given_line, PassesOn, Reads, Finds}
+use Rattle.script_input.proofs.NextLemmas.{stops_no_memory}
 use Rattle.escrow_run.specs.Run.{Answered}
-use Rattle.escrow_run.proofs.RunLemmas.{stands_more, stands_long, stands_written, stops_behind, memory_at_line, memory_at_long, fails_write}
+use Rattle.escrow_run.proofs.RunLemmas.{stands_more, stands_long, stands_written, stops_behind, memory_at_line, fails_write}
 use Rattle.escrow_run.proofs.script.Script.take_next.Goals as goal
 
 pub returns-in_err-answer-in-Some-Line-clause-err : goal.returns-in_err-answer-in-Some-Line-clause-err
@@ -26,7 +27,7 @@ returns-in_err-add_line-in-Some-Passed-clause-err g c = λ from before runs.
     (c.in_ok-find.ensures.next from to last runs.given runs.reads) in
     let p = err_from_is_err_and c.from_residual-in_err-add_line-in-Some-Passed.result c.from_residual-in_err-add_line-in-Some-Passed.ensures.1 in
     rw (p.1, p.2) (stops_behind from to before (g.W.Sink.bytes c.args.writer.now) last old.machine.world old.out.items c.add_line.new.out.items runs.given
-    faults.NoMemory (λ h. cc) (memory_at_long from to last old.lines runs.given runs.reads passed.was) runs.stands c.in_err-add_line-in-Some-Passed.ensures.err)
+    faults.NoMemory (λ h. cc) (stops_no_memory from to last runs.given passed.no_further) runs.stands c.in_err-add_line-in-Some-Passed.ensures.err)
 
 pub returns-in-Some-End-clause-ok : goal.returns-in-Some-End-clause-ok
 returns-in-Some-End-clause-ok g c = λ from before runs.
