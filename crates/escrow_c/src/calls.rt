@@ -91,16 +91,17 @@ pub(crate) fn do_line(alloc: Global, session: &mut Session, line: &[u8], answer:
 }
 
 // Writes a text to the front of the room, where it has room.
-fn say(text: &[u8], room: &mut [u8], length: &mut usize) -> u32
-    ensures done { result ≡ done → take length.new room.new ≡ text.now }
+fn say(text: &[u8], room: &mut [u8], told: &mut usize) -> u32
+    ensures done { result ≡ done → take told.new room.new ≡ text.now }
+    ensures within { result ≡ done → told.new ≤ length room.new }
     ensures fails { result ≢ done → result ≡ untold }
-    ensures none { result ≢ done → length.new ≡ length.old }
+    ensures none { result ≢ done → told.new ≡ told.old }
 {
     if room.len() < text.len() {
         return UNTOLD;
     }
     room[..text.len()].copy_from_slice(text);
-    *length = text.len();
+    *told = text.len();
     DONE
 }
 
@@ -110,15 +111,16 @@ pub(crate) fn tell_line(
     session: &mut Session,
     line: &[u8],
     room: &mut [u8],
-    length: &mut usize,
+    told: &mut usize,
 ) -> u32
     ensures done { result ≡ done
-        → Tells session.old line.now (take length.new room.new) session.new }
+        → Tells session.old line.now (take told.new room.new) session.new }
+    ensures within { result ≡ done → told.new ≤ length room.new }
     ensures fails { result ≢ done → FailsBy session.old line.now result session.new }
-    ensures none { result ≢ done → length.new ≡ length.old }
+    ensures none { result ≢ done → told.new ≡ told.old }
 {
     match session.tell(alloc, line) {
-        Ok(text) => say(text.as_slice(), room, length),
+        Ok(text) => say(text.as_slice(), room, told),
         Err(fault) => call_status(fault),
     }
 }

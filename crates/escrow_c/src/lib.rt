@@ -2,7 +2,7 @@
 //! `include/escrow.h` declares it, and `docs/EMBEDDING.md` tells what a caller has to keep.
 #![tactic(auto)]
 
-ghost use Rattle.std.specs.Prelude.{◌≡◌, ◌≢◌, ◌<◌, ◌↔◌, length, take, None};
+ghost use Rattle.std.specs.Prelude.{◌≡◌, ◌≢◌, ◌<◌, ◌≤◌, ◌↔◌, length, take, None};
 ghost use Rattle.entry_text.specs.Lines.{max_line};
 ghost use Rattle.escrow_c.specs.Status.{done, closed, no_room};
 ghost use Rattle.escrow_c.specs.Numbers.{command_of};
@@ -142,7 +142,7 @@ pub extern "C" fn escrow_site_do(
 
 /// Asks the site a command that is spelled by a line without its line feed, and answers the text of
 /// the entry, as `0 escrow 0.1 stock -20 -> granted`, also without one. `text` has room for 256
-/// bytes at least, and `told` is how many of them the text has, or 0.
+/// bytes at least, and `told` is how many of them the text has, or 0: never more than there are.
 #[unsafe(no_mangle)]
 pub extern "C" fn escrow_site_tell(
     alloc: Global,
@@ -153,6 +153,7 @@ pub extern "C" fn escrow_site_tell(
 ) -> u32
     ensures done { result ≡ done
         → TellsLine handle.old.value line.now (take told.new text.new) handle.new.value }
+    ensures within { told.new ≤ length text.new }
     ensures fails { result ≢ done → result ≢ no_room
         → FailsAt handle.old.value line.now result handle.new.value }
     ensures room { (result ≡ no_room) ↔ (length text.old < max_line) }
@@ -267,8 +268,9 @@ pub extern "C" fn escrow_site_share(
 }
 
 /// Runs a script in a world of its own, as `escrow run` does, and writes what answers it to `out`.
-/// `needed` is how many bytes the answers have, also where there is too little room for them, which
-/// is `NO_ROOM`; else it is 0. Nothing is kept between calls.
+/// `needed` is how many bytes the answers have: at `DONE` so many were written, never more than there
+/// is room for; where there is too little room it is `NO_ROOM`, and `needed` says how much would do;
+/// else it is 0. Nothing is kept between calls.
 #[unsafe(no_mangle)]
 pub extern "C" fn escrow_run_text(
     alloc: Global,
@@ -277,6 +279,7 @@ pub extern "C" fn escrow_run_text(
     needed: &mut usize,
 ) -> u32
     ensures done { result ≡ done → AnswersScript script.now (take needed.new out.new) }
+    ensures within { result ≡ done → needed.new ≤ length out.new }
     ensures room { result ≡ no_room → NeedsRoom script.now (length out.old) needed.new }
     ensures fails { result ≢ done → result ≢ no_room → IsUnanswered script.now result }
     ensures none { result ≢ done → result ≢ no_room → needed.new ≡ 0 }

@@ -1,6 +1,6 @@
 //! A whole script as text, and its answers as text.
 
-ghost use Rattle.std.specs.Prelude.{◌≡◌, ◌≢◌, ◌<◌, length, take, IfOk, IfErr};
+ghost use Rattle.std.specs.Prelude.{◌≡◌, ◌≢◌, ◌<◌, ◌≤◌, length, take, IfOk, IfErr};
 ghost use Rattle.escrow_c.specs.Status.{done, no_room};
 ghost use Rattle.escrow_c.specs.Texts.{AnswersScript, Explained, script_status};
 
@@ -25,6 +25,7 @@ pub(crate) fn answers_to(alloc: Global, script: &[u8]) -> Result<Vec<u8>, Script
 /// Writes an answer to the front of the room, where it has room, and tells how many bytes it has.
 pub(crate) fn fill(answers: &[u8], room: &mut [u8], needed: &mut usize) -> u32
     ensures done { result ≡ done → take needed.new room.new ≡ answers.now }
+    ensures within { result ≡ done → needed.new ≤ length room.new }
     ensures room { result ≢ done → (result ≡ no_room) × (length room.old < needed.new) }
     ensures needed { needed.new ≡ length answers.now }
     ensures untouched { result ≢ done → room.new ≡ room.old }

@@ -7,7 +7,7 @@ use Rattle.field_bounds.specs.declared.id.SiteNo.{SiteNo}
 use Rattle.field_bounds.specs.declared.entry.Entry.{Entry}
 use Rattle.site_desk.specs.declared.locked.Receipt.{Receipt}
 use Rattle.std.proofs.lemmas.Option.{slice_get-get_or}
-use Rattle.site_desk.specs.ReceiptFaults.{IsReachedAt}
+use Rattle.site_desk.specs.ReceiptFaults.{IsReachedAt, IsLeastWithout}
 use Rattle.site_desk.specs.Receipts.{IsAt, AreAllAt, HasNumber, AreDistinct, AreReceiptsOf}
 
 -- these receipts stand, each once, and their places are those that are marked
@@ -106,9 +106,7 @@ all_checked site h all i seen past len marked c =
 pub missing_at : (site own : SiteNo) (shown h : List Entry) (all : List Receipt) (i : ℕ) (seen marks : List Bool) (place : ℕ) → own ≡ site
     → shown ≡ h → length all ≤ i → marks ≡ seen → length seen ≡ length shown
     → (place < length marks) × (get_or marks place false ≡ false) × ((n : ℕ) → n < place → get_or marks n false ≡ true)
-    → IsChecked own shown (take i all) seen
-    → (own ≡ site) × (0 < place + 1) × (place + 1 ≤ length h) × ¬ HasNumber all (place + 1)
-    × ((m : ℕ) → 0 < m → m < place + 1 → HasNumber all m)
+    → IsChecked own shown (take i all) seen → (own ≡ site) × IsLeastWithout site h all (place + 1)
 missing_at site own shown h all i seen marks place is showing past same len first c =
     let e : take i all ≡ all = take_all i all past in
     let lengths : length shown ≡ length h = ap (λ (l : List Entry). length l) showing in
@@ -116,14 +114,20 @@ missing_at site own shown h all i seen marks place is showing past same len firs
     let below : place < length marks = first.0 in
     let inside : place < length seen = omega arith in (
       is,
-      omega arith,
-      omega arith,
-      λ has. true≢false (sym (c.noted place inside (subst (λ (rs : List Receipt). HasNumber rs (place + 1)) (sym e) has))
-          ∙ subst (λ (l : List Bool). get_or l place false ≡ false) same first.1),
-      λ m some under.
-          let back : m - 1 + 1 ≡ m = omega arith in
-          subst (λ (n : ℕ). HasNumber all n) back (subst (λ (rs : List Receipt). HasNumber rs (m - 1 + 1)) e
-          (c.marked (m - 1) (subst (λ (l : List Bool). get_or l (m - 1) false ≡ true) same (first.2 (m - 1) (omega arith))))),
+      record {
+        stand = subst (λ (rs : List Receipt). AreAllAt site h rs) e
+            (subst (λ (s : SiteNo). AreAllAt s h (take i all)) is
+            (subst (λ (l : List Entry). AreAllAt own l (take i all)) showing c.stand));
+        once = subst (λ (rs : List Receipt). AreDistinct rs) e c.once;
+        place = (omega arith, omega arith);
+        without = λ has.
+            true≢false (sym (c.noted place inside (subst (λ (rs : List Receipt). HasNumber rs (place + 1)) (sym e) has))
+            ∙ subst (λ (l : List Bool). get_or l place false ≡ false) same first.1);
+        lower = λ m some under.
+            let back : m - 1 + 1 ≡ m = omega arith in
+            subst (λ (n : ℕ). HasNumber all n) back (subst (λ (rs : List Receipt). HasNumber rs (m - 1 + 1)) e
+            (c.marked (m - 1) (subst (λ (l : List Bool). get_or l (m - 1) false ≡ true) same (first.2 (m - 1) (omega arith)))));
+      },
     )
 
 reached : (site own : SiteNo) (shown h : List Entry) (all : List Receipt) (i : ℕ) (d : Receipt) (seen : List Bool) → own ≡ site → shown ≡ h

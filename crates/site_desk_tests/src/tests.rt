@@ -85,20 +85,24 @@ fn serves_four<L: Ledger, R: Wait>(
     true
 }
 
-/// The closed site of a desk with one pass, and whether it answered the four calls.
+/// The closed site of a desk with one pass, whether it answered the four calls, and their receipts.
+type Four = (Closed<MemoryMedium>, bool, Vec<Receipt>);
+
+/// The same of a desk of one of the two sites.
 fn closed_after_four<L: Ledger, R: Abort + Wait>(
     rt: &R,
     alloc: Global,
     blank: Blank,
-    receipts: &mut Vec<Receipt>,
-) -> (Closed<MemoryMedium>, bool)
+    number: u16,
+) -> Four
     requires name { blank.name ≡ L.name }
     requires parts { blank.parts ≡ L.parts }
     requires some { 0 < blank.parts }
 {
-    let (desk, mut passes) = desk_over::<L>(rt, alloc, blank, 0, &[]);
-    let served = serves_four(rt, alloc, &desk, &mut passes, receipts);
-    (closed_with(rt, desk, passes), served)
+    let mut receipts = Vec::new(alloc);
+    let (desk, mut passes) = desk_over::<L>(rt, alloc, blank, number, &[]);
+    let served = serves_four(rt, alloc, &desk, &mut passes, &mut receipts);
+    (closed_with(rt, desk, passes), served, receipts)
 }
 
 /// The first receipt, from 1, that isn't of site 0 or hasn't the number of its place.
@@ -163,20 +167,15 @@ fn show(alloc: Global, closed: Closed<MemoryMedium>, served: bool, receipts: &[R
     }
 }
 
-/// What a desk of one pass shows after the four calls.
-fn shown_after_four<L: Ledger, R: Abort + Wait>(rt: &R, alloc: Global, blank: Blank) -> Shown
-    requires name { blank.name ≡ L.name }
-    requires parts { blank.parts ≡ L.parts }
-    requires some { 0 < blank.parts }
-{
-    let mut receipts = Vec::new(alloc);
-    let (closed, served) = closed_after_four::<L, R>(rt, alloc, blank, &mut receipts);
-    show(alloc, closed, served, &receipts)
+/// The same of a desk of its own book.
+fn four_calls_at<R: Abort + Wait>(rt: &R, alloc: Global, number: u16) -> Four {
+    closed_after_four::<Brand, R>(rt, alloc, Blank::new(1), number)
 }
 
-/// The same of a desk of its own.
+/// What site 0 shows after the four calls.
 fn four_calls<R: Abort + Wait>(rt: &R, alloc: Global) -> Shown {
-    shown_after_four::<Brand, R>(rt, alloc, Blank::new(1))
+    let (closed, served, receipts) = four_calls_at(rt, alloc, 0);
+    show(alloc, closed, served, &receipts)
 }
 
 /// All four calls were served, and each has its receipt.
@@ -206,6 +205,21 @@ fn a_receipt_is_missing_or_there_twice(rt: HostRuntime) {
         number: 2,
     };
     assert_eq!(rt; shown.second_twice, Some(Err(twice)));
+}
+
+#[test]
+fn a_receipt_of_another_site_differs(rt: HostRuntime) {
+    let alloc = rt.alloc();
+    let (closed, _served, _receipts) = four_calls_at(&rt, alloc, 0);
+    let (_other, _served, foreign) = four_calls_at(&rt, alloc, 1);
+    let differs = ReceiptFault::Differs {
+        site: SiteNo(1),
+        number: 2,
+    };
+    assert_eq!(rt;
+        verdict_at(alloc, &closed, &foreign, &[1]),
+        Some(Err(differs))
+    );
 }
 
 /// Whether a desk over these bytes that is closed without a call has a fresh base.
