@@ -6,7 +6,6 @@ use site_folder::{Identity, IdentityFault, sealed_log_name, write_identity};
 use std::alloc::Global;
 use std::fs::File;
 use std::io::{ErrorKind, Write};
-use std::path::Path;
 use std::{fs, io};
 
 // The header that a schema's file tells: its bytes, without one line feed at the end.
@@ -71,42 +70,56 @@ pub(crate) fn write_file(rt: &HostRuntime, path: &str, text: &[u8]) -> Result<()
     }
 }
 
-// Writes the name of the log, and then, as the last of all, who the folder belongs to.
+// Writes the name of the log, and then, as the last of all, who the folder belongs to. The log is
+// safe in its place before: so no stop leaves the one without the other.
 fn write_files(rt: &HostRuntime, paths: &Paths, identity: &Identity) -> Result<(), Fault> {
     let alloc = rt.alloc();
     let name = sealed_log_name(alloc, identity)?;
     write_file(rt, paths.log.as_str(), name.as_slice())?;
+    sync_path(rt, paths.folder.as_str())?;
     let text = write_identity(alloc, identity)?;
     write_file(rt, paths.site.as_str(), text.as_slice())
 }
 
-// The folder in which a path lies.
-fn parent_of(path: &str) -> &str {
-    match Path::new(path).parent() {
-        Some(folder) if !folder.as_str().is_empty() => folder.as_str(),
-        Some(_) | None => ".",
-    }
+// Syncs what a file holds, or the names in a folder.
+fn sync(rt: &HostRuntime, path: &str) -> io::Result<()> {
+    File::open(rt, path)?.sync_all()
 }
 
 /// Makes what a file holds, or the names in a folder, safe from a stop of the machine.
 pub(crate) fn sync_path(rt: &HostRuntime, path: &str) -> Result<(), Fault> {
-    let synced = match File::open(rt, path) {
-        Ok(opened) => opened.sync_all(),
-        Err(error) => Err(error),
-    };
-    match synced {
+    match sync(rt, path) {
         Ok(()) => Ok(()),
         Err(error) => Err(failed(rt.alloc(), path, error)),
     }
 }
 
+// Makes the folder's own name safe from a stop of the machine. Where the folder above may not be
+// looked into, or is of a system that syncs none, somebody else made the folder, and saw to that.
+fn sync_above(rt: &HostRuntime, paths: &Paths) -> Result<(), Fault> {
+    let path = paths.above.as_str();
+    match sync(rt, path) {
+        Ok(()) => Ok(()),
+        Err(error) => match error.kind() {
+            ErrorKind::PermissionDenied | ErrorKind::InvalidInput => Ok(()),
+            _ => Err(failed(rt.alloc(), path, error)),
+        },
+    }
+}
+
+/// Makes safe from a stop of the machine who a folder belongs to, and the folder's own name: a `create`
+/// that was stopped may not have done so.
+pub(crate) fn sync_site(rt: &HostRuntime, paths: &Paths) -> Result<(), Fault> {
+    sync_path(rt, paths.site.as_str())?;
+    sync_above(rt, paths)
+}
+
 // Makes a site's folder with its files, and makes them safe from a stop of the machine.
 fn make_site(rt: &HostRuntime, paths: &Paths, identity: &Identity) -> Result<(), Fault> {
-    let folder = paths.folder.as_str();
     make_folder(rt, paths)?;
     write_files(rt, paths, identity)?;
-    sync_path(rt, folder)?;
-    sync_path(rt, parent_of(folder))
+    sync_path(rt, paths.folder.as_str())?;
+    sync_path(rt, paths.above.as_str())
 }
 
 /// Makes the folder of a site, with a log of no records, and makes it safe from a stop of the machine. A

@@ -18,6 +18,8 @@ use std::io::ErrorKind;
 #[derive(Drop)]
 pub(crate) struct Paths {
     pub folder: String,
+    /// The folder in which it lies.
+    pub above: String,
     pub log: String,
     pub site: String,
     pub trace: String,
@@ -39,6 +41,7 @@ impl Paths {
     pub(crate) fn new(alloc: Global, folder: &str) -> Result<Paths, AllocError> {
         Ok(Paths {
             folder: String::from_str(alloc, folder)?,
+            above: path_in(alloc, folder, "..")?,
             log: path_in(alloc, folder, "log")?,
             site: path_in(alloc, folder, "site")?,
             trace: path_in(alloc, folder, "trace")?,
@@ -144,6 +147,59 @@ pub(crate) fn records_in<'a>(
     }
 }
 
+// What records come to of which this line is the first that is none: a rule may be broken in front of it.
+fn first_fault(
+    alloc: Global,
+    schema: &Schema,
+    site: SiteNo,
+    records: &[u8],
+    line: u64,
+) -> Result<LogReplayed, AllocError>
+    requires site_in { site.0 < schema.now.sites }
+    ensures outcome { IfOk result (TellsOutcome schema.now site.0) }
+{
+    let good = count_log(alloc, records)?.length.min(records.len());
+    match replay_log(alloc, schema, site, &records[..good])? {
+        LogReplayed::BreaksRule { number } => Ok(LogReplayed::BreaksRule { number }),
+        LogReplayed::Standing { .. } | LogReplayed::BadLine { .. } => {
+            Ok(LogReplayed::BadLine { number: line })
+        }
+    }
+}
+
+// What the records of a site come to: what they stand for, or the first line that is no record or breaks
+// a rule. Costs a pass over them, and where there is a line that is none two more.
+fn replay_records(
+    alloc: Global,
+    schema: &Schema,
+    site: SiteNo,
+    records: &[u8],
+) -> Result<LogReplayed, AllocError>
+    requires site_in { site.0 < schema.now.sites }
+    ensures outcome { IfOk result (TellsOutcome schema.now site.0) }
+{
+    match replay_log(alloc, schema, site, records)? {
+        LogReplayed::BadLine { number } => first_fault(alloc, schema, site, records, number),
+        replayed => Ok(replayed),
+    }
+}
+
+// The fault of records of which this line is the first that is none.
+fn refuse_line(
+    alloc: Global,
+    paths: &Paths,
+    identity: &Identity,
+    records: &[u8],
+    line: u64,
+) -> Result<Fault, AllocError> {
+    match replay_records(alloc, identity.schema(), identity.number(), records)? {
+        LogReplayed::BadLine { number } | LogReplayed::BreaksRule { number } => {
+            Ok(bad_record(alloc, paths, number))
+        }
+        LogReplayed::Standing { .. } => Ok(bad_record(alloc, paths, line)),
+    }
+}
+
 /// How many records the log of the folder holds, each line of which is one. It is read without its
 /// lock.
 pub(crate) fn count_records(
@@ -156,7 +212,7 @@ pub(crate) fn count_records(
     let records = records_in(alloc, paths, identity, bytes.as_slice())?;
     let count = count_log(alloc, records.as_slice())?;
     match count.bad_line {
-        Some(line) => Err(bad_record(alloc, paths, line)),
+        Some(line) => Err(refuse_line(alloc, paths, identity, records.as_slice(), line)?),
         None => Ok(count),
     }
 }
@@ -176,7 +232,7 @@ pub(crate) fn replay_folder(
     let alloc = rt.alloc();
     let bytes = read_file(rt, paths.log.as_str(), Why::NoLog)?;
     let records = records_in(alloc, paths, identity, bytes.as_slice())?;
-    Ok(replay_log(alloc, schema, site, records.as_slice())?)
+    Ok(replay_records(alloc, schema, site, records.as_slice())?)
 }
 
 /// Why a file wasn't opened, as a fault at its path; or why it is refused where it isn't there.

@@ -7,6 +7,7 @@ mod closing;
 mod creating;
 mod fault;
 mod folder;
+mod judging;
 mod opening;
 mod progress;
 mod serving;
@@ -23,8 +24,9 @@ use fault::Fault;
 use site_tasks::{Task, read_task};
 use std::process::ExitCode;
 
-fn carry_out(rt: &HostRuntime, task: &Task) -> Result<(), Fault> {
-    match task {
+// Carries a task out, and tells the status that it ends with.
+fn carry_out(rt: &HostRuntime, task: &Task) -> Result<u8, Fault> {
+    let done = match task {
         Task::Create {
             folder,
             schema,
@@ -36,8 +38,11 @@ fn carry_out(rt: &HostRuntime, task: &Task) -> Result<(), Fault> {
         Task::Check { folders } => checking::check(rt, folders.as_slice()),
         Task::Settle { folders, how } => settling::settle(rt, folders.as_slice(), *how),
         Task::Weave { folders } => weaving::weave_folders(rt, folders.as_slice()),
+        Task::Judge { folders } => return judging::judge_folders(rt, folders.as_slice()),
         Task::Version => tell_version(rt),
-    }
+    };
+    done?;
+    Ok(0)
 }
 
 // Which versions of files are read, and which are made. A folder keeps its own for life.
@@ -74,7 +79,7 @@ fn main(rt: HostRuntime) -> ExitCode {
         Err(error) => return ExitCode::from(tell_refused(&rt, &error)),
     };
     match carry_out(&rt, &task) {
-        Ok(()) => ExitCode::from(0),
+        Ok(status) => ExitCode::from(status),
         Err(fault) => ExitCode::from(tell(&rt, &fault)),
     }
 }

@@ -17,8 +17,8 @@ pub(crate) fn open_named<F: LogFile + Drop>(
 ) -> Result<Option<NamedLog<F>>, Fault> {
     match NamedLog::open(file, name) {
         Ok(log) => Ok(Some(log)),
-        Err(NameFault::Other) => Ok(None),
-        Err(NameFault::Device) => Err(device_fault(alloc, paths.log.as_str())),
+        Err((NameFault::Other, _file)) => Ok(None),
+        Err((NameFault::Device, _file)) => Err(device_fault(alloc, paths.log.as_str())),
     }
 }
 
@@ -30,9 +30,9 @@ pub(crate) fn open_sealed<F: LogFile + Drop>(
 ) -> Result<Option<SealedLog<NamedLog<F>>>, Fault> {
     match SealedLog::open(alloc, log) {
         Ok(log) => Ok(Some(log)),
-        Err(SealFault::Damaged { line }) => Err(damaged_batch(alloc, paths, line)),
-        Err(SealFault::Ended) => Ok(None),
-        Err(SealFault::Device) => Err(device_fault(alloc, paths.log.as_str())),
-        Err(SealFault::NoMemory) => Err(Fault::NoMemory),
+        Err((SealFault::Damaged { line }, _file)) => Err(damaged_batch(alloc, paths, line)),
+        Err((SealFault::Ended, _file)) => Ok(None),
+        Err((SealFault::Device, _file)) => Err(device_fault(alloc, paths.log.as_str())),
+        Err((SealFault::NoMemory, _file)) => Err(Fault::NoMemory),
     }
 }

@@ -1,6 +1,7 @@
 //! The command `serve`.
 
 use crate::closing::{is_settled, settled_fault};
+use crate::creating::sync_site;
 use crate::fault::{Fault, Why, device_fault, refused, with_call};
 use crate::folder::{Paths, lock_log, read_file, read_site, records_in};
 use crate::opening::{open_named, open_sealed};
@@ -54,11 +55,11 @@ fn open_service<F: LogFile + Drop, T: LogFile>(
     let schema = identity.schema().copy()?;
     match Service::open(alloc, schema, identity.number(), log, trace) {
         Ok(service) => Ok(service),
-        Err(OpenFault::Line(line)) => {
+        Err((OpenFault::Line(line), _log)) => {
             Err(refused(alloc, paths.log.as_str(), Why::BadRecord(line)))
         }
-        Err(OpenFault::Device) => Err(device_fault(alloc, paths.log.as_str())),
-        Err(OpenFault::NoMemory) => Err(Fault::NoMemory),
+        Err((OpenFault::Device, _log)) => Err(device_fault(alloc, paths.log.as_str())),
+        Err((OpenFault::NoMemory, _log)) => Err(Fault::NoMemory),
     }
 }
 
@@ -153,10 +154,16 @@ fn serve_traced<F: LogFile + Drop, T: LogFile>(
 
 // Why the serving ended over a log of closed batches: where no call of a file failed, memory was
 // wanting for a batch.
-fn sealed_fault<F: TellsFault>(fault: Fault, is_lost: bool, trace: &mut Option<F>) -> Fault {
+fn sealed_fault<F: TellsFault>(
+    alloc: Global,
+    paths: &Paths,
+    fault: Fault,
+    is_lost: bool,
+    trace: &mut Option<F>,
+) -> Fault {
     match fault {
-        Fault::Device(path) if !is_lost => match trace_call(trace) {
-            Some(failed) => with_call(Fault::Device(path), Some(failed)),
+        Fault::Device(_) if !is_lost => match trace_call(trace) {
+            Some(failed) => trace_fault(alloc, paths, failed),
             None => Fault::NoMemory,
         },
         fault => fault,
@@ -173,7 +180,7 @@ fn serve_batches<L: LogFile, F: TellsFault>(
 ) -> Result<(), Fault> {
     match serve_traced(rt, paths, identity, &mut *log, trace) {
         Ok(()) => Ok(()),
-        Err(fault) => Err(sealed_fault(fault, log.is_lost(), trace)),
+        Err(fault) => Err(sealed_fault(rt.alloc(), paths, fault, log.is_lost(), trace)),
     }
 }
 
@@ -236,11 +243,26 @@ fn trace_call<F: TellsFault>(trace: &mut Option<F>) -> Option<FileFault> {
     }
 }
 
-// The call that failed last, of the log, or of the trace where none of the log's did.
-fn failed_call<F: TellsFault>(file: &mut F, trace: &mut Option<F>) -> Option<FileFault> {
-    match file.take_fault() {
-        Some(failed) => Some(failed),
-        None => trace_call(trace),
+// The fault that this call of the trace failed.
+fn trace_fault(alloc: Global, paths: &Paths, failed: FileFault) -> Fault {
+    with_call(device_fault(alloc, paths.trace.as_str()), Some(failed))
+}
+
+// A device fault with the call that failed last: one of the log, or of the trace where none of the log's
+// did.
+fn told_fault<F: TellsFault>(
+    alloc: Global,
+    paths: &Paths,
+    fault: Fault,
+    file: &mut F,
+    trace: &mut Option<F>,
+) -> Fault {
+    match (fault, file.take_fault()) {
+        (Fault::Device(path), None) => match trace_call(trace) {
+            Some(failed) => trace_fault(alloc, paths, failed),
+            None => Fault::Device(path),
+        },
+        (fault, failed) => with_call(fault, failed),
     }
 }
 
@@ -256,7 +278,7 @@ fn serve_files<F: TellsFault>(
     let mut trace = trace;
     match serve_lent(rt, paths, identity, &mut file, &mut trace) {
         Ok(()) => Ok(()),
-        Err(fault) => Err(with_call(fault, failed_call(&mut file, &mut trace))),
+        Err(fault) => Err(told_fault(rt.alloc(), paths, fault, &mut file, &mut trace)),
     }
 }
 
@@ -297,7 +319,8 @@ fn refuse_settled(rt: &HostRuntime, paths: &Paths) -> Result<(), Fault> {
     Ok(())
 }
 
-// Serves the site over its log and its trace.
+// Serves the site over its log and its trace. What it stands on is safe from a stop of the machine
+// before anything is answered.
 fn serve_site(
     rt: &HostRuntime,
     paths: &Paths,
@@ -306,6 +329,7 @@ fn serve_site(
 ) -> Result<(), Fault> {
     let file = lock_log(rt, paths)?;
     refuse_settled(rt, paths)?;
+    sync_site(rt, paths)?;
     let trace = trace_beside(rt, paths, identity, how)?;
     if how.is_synced {
         serve_files(rt, paths, identity, file, trace)

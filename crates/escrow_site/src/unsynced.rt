@@ -34,6 +34,8 @@ impl LogFile for UnsyncedFile {
 
     ghost safe = { λ f. None };
 
+    ghost least = { λ f. None };
+
     fn read_at(&mut self, at: u64, buffer: &mut [u8]) -> Result<usize, FileFailed> {
         self.file.read_at(at, buffer)
     }
