@@ -9,11 +9,14 @@
 
 from .device import DeviceFault
 from .errors import (
+    Busy,
+    Cause,
     Down,
     EscrowError,
     Forged,
     Lost,
     NothingGiven,
+    OtherSite,
     OtherWorld,
     Over,
     ProgramError,
@@ -31,8 +34,11 @@ from .transaction import AsyncTransaction, Transaction
 from .values import Interval, Kind, Mark, Outcome, Share, Spared, Statement
 
 __all__ = [
-    "AsyncSite", "AsyncTransaction", "Backoff", "Counts", "DeviceFault", "Down", "EscrowError", "Field", "Forged",
-    "Interval", "Kind", "Lost", "Mark", "NothingGiven", "OtherWorld", "Outcome", "Over", "ProgramError", "Refusal",
-    "Refused", "Schema", "Share", "Short", "Shown", "Site", "Spared", "Statement", "Transaction", "Unknown", "Watch",
-    "create", "find_program", "show",
+    "AsyncSite", "AsyncTransaction", "Backoff", "Busy", "Cause", "Counts", "DeviceFault", "Down", "EscrowError", "Field",
+    "Forged", "Interval", "Kind", "Lost", "Mark", "NothingGiven", "OtherSite", "OtherWorld", "Outcome", "Over",
+    "ProgramError", "Refusal", "Refused", "Schema", "Share", "Short", "Shown", "Site", "Spared", "Statement",
+    "Transaction", "Unknown", "Watch", "__version__", "create", "find_program", "show",
 ]  # fmt: skip
+
+__version__ = "0.1.0"
+"""That of the client, of all its packages."""

@@ -1,12 +1,15 @@
-"""How a thread and a task ask, and what each does about an answer that a stop left out."""
+"""How a thread and a task ask, and what each does about an answer that a stop left out. Each ask has an end by
+`time.monotonic`, `NEVER` where there is no limit: then it raises `Busy`, or `Unknown` where its lines went out and they
+may change something."""
 
 from __future__ import annotations
 
+import time
 from typing import Optional, TypeVar, cast
 
 from .calls import Call, Kept
-from .desk import Ask
-from .errors import Down, Interrupted, Unknown
+from .desk import NEVER, Ask
+from .errors import Busy, Down, Interrupted, Unknown
 from .pipeline import Pipeline
 from .values import Outcome
 from .waiters import ThreadWaiter
@@ -14,44 +17,52 @@ from .waiters import ThreadWaiter
 T = TypeVar("T")
 
 
-def ask(pipeline: Pipeline, call: Call[T]) -> T:
+def end_of(timeout: Optional[float], default: Optional[float]) -> float:
+    """When a call has to be answered that is made now: by its own time limit, or else by this one."""
+    seconds = default if timeout is None else timeout
+    return NEVER if seconds is None else time.monotonic() + seconds
+
+
+def ask(pipeline: Pipeline, call: Call[T], end: float = NEVER) -> T:
     """Asks, and waits for the answer in this thread. Raises what it is, or `Interrupted` where a stop left it out."""
+    if end != NEVER and end <= time.monotonic():
+        raise pipeline.decline(call)
     waiter = ThreadWaiter()
     call.waiter = waiter
     pipeline.submit((call,))
     pipeline.flush()
     pipeline.reading.want()
+    if end != NEVER and not waiter.comes(end - time.monotonic()):
+        fault = pipeline.withdraw(call)
+        pipeline.flush()
+        raise fault
     return cast(T, waiter.wait())
 
 
 def is_kept(pipeline: Pipeline, id: str, seconds: float) -> bool:
     """Whether the log has the commit of this transaction: asked of a site that stands, before anybody else may ask it.
     Raises `Down` where it isn't answered in so many seconds."""
-    call, waiter = Kept(id, pipeline.line_id(id)), ThreadWaiter()
-    call.waiter = waiter
-    pipeline.submit((call,))
-    pipeline.flush()
-    if not waiter.comes(seconds):
-        raise Down(f"whether the log has transaction {id} wasn't answered in time")
     try:
-        return waiter.wait() is Outcome.COMMITTED
+        return ask(pipeline, Kept(id, pipeline.line_id(id)), time.monotonic() + seconds) is Outcome.COMMITTED
+    except Busy as fault:
+        raise Down(f"whether the log has transaction {id} wasn't answered in time") from fault
     except (Unknown, ValueError):  # its epoch is later than any of the log, or the one that has just begun
         return False
 
 
-def kept(pipeline: Pipeline, id: str) -> Outcome:
+def kept(pipeline: Pipeline, id: str, end: float = NEVER) -> Outcome:
     """What became of a transaction whose answer a stop left out. Raises `Unknown` where it can't be asked."""
-    return ask_behind_stop(pipeline, Kept(id, pipeline.line_id(id)), id)
+    return ask_behind_stop(pipeline, Kept(id, pipeline.line_id(id)), id, end)
 
 
-def ask_behind_stop(pipeline: Pipeline, call: Call[T], id: Optional[str] = None) -> T:
+def ask_behind_stop(pipeline: Pipeline, call: Call[T], id: Optional[str] = None, end: float = NEVER) -> T:
     """Asks of what a stop left in doubt, again behind each further one. Raises `Unknown` where it can't be asked."""
     while True:
         try:
-            return ask(pipeline, call)
+            return ask(pipeline, call, end)
         except Interrupted:
             continue
-        except Down as fault:
+        except (Down, Busy) as fault:
             raise unknown(pipeline, fault, id) from fault
 
 
@@ -62,17 +73,19 @@ def unknown(pipeline: Pipeline, fault: Exception, id: Optional[str] = None) -> U
     return told
 
 
-async def async_kept(pipeline: Pipeline, ask_: Ask, id: str) -> Outcome:
+async def async_kept(pipeline: Pipeline, ask_: Ask, id: str, end: float = NEVER) -> Outcome:
     """As `kept`."""
-    return await async_ask_behind_stop(pipeline, ask_, Kept(id, pipeline.line_id(id)), id)
+    return await async_ask_behind_stop(pipeline, ask_, Kept(id, pipeline.line_id(id)), id, end)
 
 
-async def async_ask_behind_stop(pipeline: Pipeline, ask_: Ask, call: Call[T], id: Optional[str] = None) -> T:
+async def async_ask_behind_stop(
+    pipeline: Pipeline, ask_: Ask, call: Call[T], id: Optional[str] = None, end: float = NEVER
+) -> T:
     """As `ask_behind_stop`."""
     while True:
         try:
-            return await ask_(call)
+            return await ask_(call, end)
         except Interrupted:
             continue
-        except Down as fault:
+        except (Down, Busy) as fault:
             raise unknown(pipeline, fault, id) from fault

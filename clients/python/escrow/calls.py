@@ -7,12 +7,13 @@ import enum
 from collections.abc import Callable, Sequence
 from typing import ClassVar, Generic, Optional, Protocol, TypeVar
 
-from .errors import Faulty, Unknown, refused
+from .errors import Busy, EscrowError, Faulty, Over, Unknown, gone, refused
 from .values import Command, Outcome
 from .waiters import Awaited
 
 T = TypeVar("T")
 ARROW = " -> "
+LATE = "it was asked, and its answer didn't come in time"
 
 
 class Run(Protocol):
@@ -70,8 +71,17 @@ class Call(Awaited, Generic[T]):
         nothing goes out."""
         raise NotImplementedError
 
-    def stopped(self) -> None:
-        """The process stopped before it was asked, and it is bound to it."""
+    def stopped(self) -> Over:
+        """The process stopped before it was asked, and it is bound to it: what to raise."""
+        return gone(None)
+
+    def unasked(self) -> None:
+        """Its time was up before its lines went out: they never will. Under the pipeline's lock."""
+
+    def doubt(self, front: str) -> EscrowError:
+        """What is raised where its lines went out, and its time was up before their answers came. Under the pipeline's
+        lock; `front` is what stands in front of ids."""
+        return Busy(f"{LATE}: it changes nothing, so ask again")
 
     def told(self, replies: Sequence[Reply]) -> T:
         """What the replies mean, one for each line. Raises `Refused`."""
@@ -138,6 +148,9 @@ class Line(Call[T]):
     def plan(self, run: Run) -> None:
         """It is the same at any time."""
 
+    def doubt(self, front: str) -> EscrowError:
+        return super().doubt(front) if self.again else Unknown(LATE)
+
     def told(self, replies: Sequence[Reply]) -> T:
         return self._read(replies[0].words(_FIRST[self.command]))
 
@@ -194,6 +207,9 @@ class Change(Call[None]):
     def plan(self, run: Run) -> None:
         self.id = run.new_id()
 
+    def doubt(self, front: str) -> EscrowError:
+        return Unknown(LATE, front + self.id)
+
     def told(self, replies: Sequence[Reply]) -> None:
         _begun(replies[0], self.id)
         replies[1].words("granted")
@@ -234,6 +250,7 @@ class Account(Protocol):
     """A transaction, as its calls see it: where it stands. Asked under the pipeline's lock."""
 
     line_id: str
+    id: str
 
     def begins(self, run: Run) -> str:
         """It begins now: its id. Raises `Over` where it has ended meanwhile."""
@@ -246,6 +263,12 @@ class Account(Protocol):
 
     def stopped(self) -> None:
         """It was to end, and the process stopped before."""
+
+    def unbegun(self) -> None:
+        """It was to begin, and its begin won't go out."""
+
+    def given_up(self) -> None:
+        """What it has set aside is given back: nobody waits any more for whether it was."""
 
 
 class First(Call[None]):
@@ -264,6 +287,13 @@ class First(Call[None]):
         n, own = run.number, self._account.begins(run)
         self.text = f"{n} begin\n{n} escrow {own} {self._what}\n"
         self.expected = f"{n} begin -> begun {own}\n{n} escrow {own} {self._what} -> granted\n"
+
+    def unasked(self) -> None:
+        self._account.unbegun()
+
+    def doubt(self, front: str) -> EscrowError:
+        self._account.given_up()
+        return Unknown(f"{LATE}: it is given back", self._account.id)
 
     def told(self, replies: Sequence[Reply]) -> None:
         _begun(replies[0], self._account.line_id)
@@ -284,6 +314,13 @@ class Later(Call[None]):
         line = f"{run.number} escrow {self._account.goes_on(run)} {self._what}"
         self.text, self.expected = f"{line}\n", f"{line} -> granted\n"
 
+    def stopped(self) -> Over:
+        return gone(self._account.id)
+
+    def doubt(self, front: str) -> EscrowError:
+        self._account.given_up()
+        return Unknown(f"{LATE}: it is given back", self._account.id)
+
     def told(self, replies: Sequence[Reply]) -> None:
         replies[0].words("granted")
 
@@ -303,8 +340,12 @@ class Commit(Call[None]):
         line = f"{run.number} commit {self._account.ends(run)}"
         self.text, self.expected = f"{line}\n", f"{line} -> committed\n"
 
-    def stopped(self) -> None:
+    def doubt(self, front: str) -> EscrowError:
+        return Unknown(LATE, self._account.id)
+
+    def stopped(self) -> Over:
         self._account.stopped()
+        return gone(self._account.id)
 
     def told(self, replies: Sequence[Reply]) -> None:
         replies[0].words("committed")
@@ -325,8 +366,9 @@ class Abort(Call[None]):
         line = f"{run.number} abort {self._account.ends(run)}"
         self.text, self.expected = f"{line}\n", f"{line} -> aborted\n"
 
-    def stopped(self) -> None:
+    def stopped(self) -> Over:
         self._account.stopped()
+        return gone(self._account.id)
 
     def told(self, replies: Sequence[Reply]) -> None:
         replies[0].words("aborted")

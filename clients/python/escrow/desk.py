@@ -4,7 +4,7 @@ from __future__ import annotations
 
 from asyncio import AbstractEventLoop, get_running_loop
 from collections.abc import Awaitable, Sequence
-from time import perf_counter
+from time import monotonic, perf_counter
 from typing import TYPE_CHECKING, Any, Optional, Protocol, TypeVar, cast
 
 from .calls import Call
@@ -14,6 +14,8 @@ if TYPE_CHECKING:
     from .pipeline import Pipeline
 
 T = TypeVar("T")
+NEVER = float("inf")
+"""The end of what has no time limit."""
 FEW = 16
 """So few tasks always ask together."""
 TRIALS, TRIAL, STAY = 8, 16, 1024
@@ -23,8 +25,9 @@ TRIALS, TRIAL, STAY = 8, 16, 1024
 class Ask(Protocol):
     """How a task asks."""
 
-    def __call__(self, call: Call[T]) -> Awaitable[T]:
-        """Asks, and waits for the answer. Raises what it is, or `Interrupted` where a stop left it out."""
+    def __call__(self, call: Call[T], end: float = NEVER) -> Awaitable[T]:
+        """Asks, and waits for the answer. Raises what it is, or `Interrupted` where a stop left it out; by this end, by
+        `time.monotonic`, what `withdraw` tells."""
 
 
 class Desk:
@@ -53,6 +56,42 @@ class Desk:
             self._pipeline.submit(gathered)
             self._pipeline.flush()
             self._pipeline.reading.want(self)
+
+    async def in_time(self, call: Call[Any], end: float) -> None:
+        """Awaits a call that is made for this desk: from this end on, by `time.monotonic`, it waits no more."""
+        left = end - monotonic()
+        if left <= 0:
+            raise self._pipeline.decline(call)
+        if left == NEVER:
+            await call
+            return
+        limit = self.loop.call_later(left, self._end_wait, call)
+        try:
+            await call
+        finally:
+            limit.cancel()
+
+    def _end_wait(self, call: Call[Any]) -> None:
+        wake = call.wake
+        if wake is None:  # it was answered just now, or its task was cancelled
+            return
+        if call in self.gathered:
+            self.gathered.remove(call)
+            call.answer = self._pipeline.decline(call)
+        else:
+            call.answer = self._pipeline.withdraw(call)
+            self._pipeline.flush()
+        call.wake = None
+        call.context.run(wake, self._ended)
+
+    def forget(self, call: Call[Any]) -> None:
+        """Its task is cancelled: it isn't asked, where it wasn't yet. What ends a transaction, or belongs to one that is
+        open, is."""
+        if not call.bound:
+            is_here = call in self.gathered
+            if is_here:
+                self.gathered.remove(call)
+            self._pipeline.forget(call, is_here)
 
     def wake(self, calls: Sequence[Awaited]) -> None:
         """Wakes the tasks of these calls, and has go out what they ask then."""
@@ -159,10 +198,13 @@ class Desks:
             self.desk = self._pipeline.desk(loop)
         return self.desk
 
-    async def ask(self, call: Call[T]) -> T:
+    async def ask(self, call: Call[T], end: float = NEVER) -> T:
         """Asks, and waits for the answer. Raises what it is, or `Interrupted` where a stop left it out."""
         desk = self.here()
         call.answer = None
         call.waiter = desk
-        await call
+        if end == NEVER:
+            await call
+        else:
+            await desk.in_time(call, end)
         return cast(T, result_of(call))

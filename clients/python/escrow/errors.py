@@ -4,7 +4,7 @@ from __future__ import annotations
 
 import enum
 from collections.abc import Sequence
-from typing import Optional
+from typing import Any, Optional
 
 from .device import DeviceFault, device_fault
 from .values import Kind
@@ -59,8 +59,18 @@ _ADVICE = {
 }
 
 
+def _made_again(kind: type[EscrowError], words: tuple[object, ...], told: dict[str, object]) -> EscrowError:
+    fault = kind.__new__(kind)
+    fault.args = words
+    fault.__dict__.update(told)
+    return fault
+
+
 class EscrowError(Exception):
-    """Any trouble with a site."""
+    """Any trouble with a site. Each can be copied and pickled."""
+
+    def __reduce__(self) -> tuple[Any, ...]:
+        return _made_again, (type(self), self.args, dict(self.__dict__))
 
     @property
     def device(self) -> Optional[DeviceFault]:
@@ -121,18 +131,48 @@ class NothingGiven(Refused):
 
 
 class Lost(EscrowError):
-    """A stop of the site came before the commit: the transaction isn't committed, and never will be. Begin anew."""
+    """A stop of the site came before the commit: the transaction isn't committed, and never will be. Begin anew.
+
+    `id` is that of the transaction.
+    """
+
+    def __init__(self, why: str, id: Optional[str] = None) -> None:
+        self.id = id
+        super().__init__(why if id is None else f"transaction {id}: {why}")
+
+
+class Cause(enum.Enum):
+    """What ended a transaction that is `Over`."""
+
+    ENDED = "it was committed or aborted"
+    """Its caller did, or a call of it that was `Unknown`."""
+    EXPIRED = "its time was up"
+    """That of `transaction(seconds)`."""
+    STOPPED = "a stop of the site aborted it"
 
 
 class Over(EscrowError):
     """The transaction has ended: it was committed or aborted, its time was up, or a stop of the site aborted it. Begin
-    anew."""
+    anew.
+
+    `cause` tells which of these; `id` is that of the transaction, where it had begun.
+    """
+
+    def __init__(self, why: str, id: Optional[str] = None, cause: Cause = Cause.ENDED) -> None:
+        self.id, self.cause = id, cause
+        super().__init__(why)
+
+
+class Busy(EscrowError):
+    """Its time was up before it was asked, or too many others wait: nothing was begun by it, and nothing was changed.
+    Ask again later, or tell the customer to. So too where only what is there was asked about."""
 
 
 class Unknown(EscrowError):
-    """A stop of the site left the answer out, and what happened can't be told now. Tell the customer nothing yet.
+    """It was asked, and what happened can't be told now: a stop of the site left the answer out, or its time was up. Tell
+    the customer nothing yet, and don't ask for the same anew: both may happen.
 
-    `id` is that of the transaction, where there is one: `Site.outcome` tells of it once the site stands again.
+    `id` is that of the transaction, where there is one: `Site.outcome` tells of it once the site answers again.
     """
 
     def __init__(self, why: str, id: Optional[str] = None) -> None:
@@ -149,6 +189,17 @@ class Down(EscrowError):
     def __init__(self, why: str, status: Optional[int] = None) -> None:
         self.status = status
         super().__init__(why)
+
+
+class OtherSite(EscrowError, ValueError):
+    """The id is of another site of this world: nothing was asked, since this one would tell of a transaction of its own.
+
+    `id` is the one that was asked about, `site` the number of its site, and `own` that of the one that was asked.
+    """
+
+    def __init__(self, id: str, site: int, own: int) -> None:
+        self.id, self.site, self.own = id, site, own
+        super().__init__(f"{id}: this id is of site {site}, and this is site {own}: ask that one")
 
 
 class OtherWorld(EscrowError, ValueError):
@@ -197,6 +248,11 @@ def refused(words: Sequence[str], asked: str) -> Refused:
     return _CLASSES.get(number, Refused)(number, told, asked)
 
 
-def gone() -> Over:
+def over(cause: Cause, id: Optional[str]) -> Over:
+    """What a transaction is told that has ended by this; without an id it had not begun."""
+    return Over(f"the transaction has ended: {cause.value}", id or None, cause)
+
+
+def gone(id: Optional[str]) -> Over:
     """What a transaction is told that a stop has ended."""
-    return Over("the transaction has ended: a stop of the site aborted it")
+    return over(Cause.STOPPED, id)

@@ -15,8 +15,22 @@ from typing import Any, NamedTuple, Optional, Protocol, cast
 
 from .calls import Call, Change, Changes, Shape, Standing
 from .desk import Desk
-from .errors import Down, EpochFull, EscrowError, Faulty, Interrupted, Lost, Over, Refusal, Refused, Short, Unknown, gone
-from .numbers import SHORT, change_of, line_id, read_id
+from .errors import (
+    Busy,
+    Down,
+    EpochFull,
+    EscrowError,
+    Faulty,
+    Interrupted,
+    Lost,
+    Over,
+    Refusal,
+    Refused,
+    Short,
+    Unknown,
+)
+from .holding import Holding
+from .numbers import SHORT, change_of, front_of, line_id, read_id
 from .reading import Reading
 from .values import Command, Kind, Share, Spared, Statement
 from .waiters import settle
@@ -52,7 +66,7 @@ class Watch(Protocol):
         """The process has ended."""
 
     def missed(self, outcome: str) -> None:
-        """A call ended without its answer: `lost`, `over`, `unknown` or `down`."""
+        """A call ended without its answer: `lost`, `over`, `unknown`, `down` or `busy`."""
 
     def waits(self, calls: int) -> None:
         """So many calls aren't answered yet."""
@@ -100,14 +114,18 @@ class Pipeline:
         fields: frozenset[str],
         issued: Callable[[Statement], None],
         watch: Optional[Watch],
+        holding: Optional[Holding] = None,
+        most_waiting: Optional[int] = None,
     ) -> None:
         self.number = number
         self.world = world[:SHORT]
-        """The first digits of the world's name, which stand in front of each id."""
-        self.front = f"{self.world}-"
+        """The first digits of the world's name."""
+        self.front = front_of(self.world, number)
+        """What stands in front of each id."""
         self.counts = Counts()
         self.lock = threading.Lock()
-        self._fields, self._issued, self._watch = fields, issued, watch
+        self._fields, self._issued, self._watch = {name: name for name in fields}, issued, watch
+        self._most_waiting = most_waiting
         self.shapes: dict[tuple[str, int], Shape] = {}
         """By the field and the change."""
         # The process, as it now stands.
@@ -118,8 +136,9 @@ class Pipeline:
         self.era = 0
         """How often somebody else may have served the site between two processes of this client."""
         self.open = 0
-        self.open_ids: set[str] = set()
+        self.open_ids = Holding() if holding is None else holding
         """As lines name them."""
+        self.open_ids.lock, self.open_ids.front = self.lock, self.front
         self.numbers = NUMBERS
         self._numbers, self._prefix = 0, ""
         self._ending = False  # its input is to end, once all that was asked is written
@@ -142,20 +161,23 @@ class Pipeline:
     # What callers do.
 
     def known(self, field: str) -> str:
-        """The field, where the schema has it. Raises `Refused` where it hasn't, as the site would."""
-        if field not in self._fields:
+        """The field as the schema spells it. Raises `Refused` where it hasn't got it, as the site would."""
+        known = self._fields.get(field)
+        if known is None:
             raise Refused(Refusal.NO_FIELD, None, field)
-        return field
+        return known
 
     def shape(self, field: str, change: int) -> Shape:
         """What the lines of such a change have in common, kept in `shapes`. Raises `Refused` or `ValueError` where it
-        is none."""
-        shape = self.shapes.get((field, change))
+        is none, and `TypeError` where the change is no whole number, though it may equal one that is known."""
+        whole = change_of(change)
+        shape = self.shapes.get((field, whole))
         if shape is None:
-            shape = Shape(self.number, self.known(field), change_of(change))
+            name = self.known(field)
+            shape = Shape(self.number, name, whole)
             if len(self.shapes) >= SHAPES:
                 self.shapes.clear()
-            self.shapes[field, change] = shape
+            self.shapes[name, whole] = shape
         return shape
 
     def desk(self, loop: asyncio.AbstractEventLoop) -> Desk:
@@ -178,9 +200,61 @@ class Pipeline:
         with self.lock:
             if len(calls) > 1 and set(map(type, calls)) == _CHANGES and self._can_begin(len(calls)):
                 self._queue_changes(cast("Sequence[Change]", calls))
-            else:
+            elif self._most_waiting is None:
                 for call in calls:
                     self._place(call)
+            else:
+                for call in calls:
+                    self._place_or_refuse(call)
+
+    def _place_or_refuse(self, call: Call[Any]) -> None:
+        if self._is_one_too_many(call):
+            call.unasked()
+            self.fail(call, Busy(f"{self.unanswered} calls wait, and no more may: nothing was begun"))
+        else:
+            self._place(call)
+
+    def _is_one_too_many(self, call: Call[Any]) -> bool:
+        """Whether so many wait that this one may not. One that ends a transaction may, and one that tells what became of
+        one."""
+        if self._most_waiting is None or call.bound or call.command is Command.KEPT:
+            return False
+        return self.dead is None and self.unanswered >= self._most_waiting
+
+    def withdraw(self, call: Call[Any]) -> EscrowError:
+        """Its time is up: nobody waits for it any more. What to tell who asked. Then `flush`."""
+        with self.lock:
+            if self.unqueue(call):
+                return self._declined(call)
+            call.waiter = None
+            fault = call.doubt(self.front)
+            self.missed(fault)
+            return fault
+
+    def forget(self, call: Call[Any], was_kept: bool) -> None:
+        """Nobody waits for it any more: it isn't asked, where it wasn't yet. `was_kept` tells that it wasn't submitted."""
+        with self.lock:
+            if was_kept or self.unqueue(call):
+                call.unasked()
+
+    def unqueue(self, call: Call[Any]) -> bool:
+        """Whether it waited for a place, or for a site that stands: it waits no more. Only under the lock."""
+        for waiting in (self._waiting, self._deferred):
+            if call in waiting:
+                waiting.remove(call)
+                return True
+        return False
+
+    def decline(self, call: Call[Any]) -> EscrowError:
+        """Its time is up, and it wasn't submitted: what to tell who asks."""
+        with self.lock:
+            return self._declined(call)
+
+    def _declined(self, call: Call[Any]) -> Busy:
+        call.unasked()
+        busy = Busy("its time was up before it was asked: nothing was begun")
+        self.missed(busy)
+        return busy
 
     def submit_standing(self, calls: Sequence[Call[Any]]) -> bool:
         """As `submit`, where the site stands: whether it does. Else they aren't asked, and nobody is told."""
@@ -191,7 +265,8 @@ class Pipeline:
             return self.up
 
     def _can_begin(self, many: int) -> bool:
-        return self.up and self._numbers + many <= self.numbers
+        has_room = self._most_waiting is None or self.unanswered + many <= self._most_waiting
+        return self.up and has_room and self._numbers + many <= self.numbers
 
     def _queue_changes(self, changes: Sequence[Change]) -> None:
         """As `queue` of each, where nothing can be wrong with any, and one loop asks."""
@@ -220,8 +295,7 @@ class Pipeline:
 
     def _keep(self, call: Call[Any]) -> None:
         if call.bound:  # its transaction has ended with the process
-            call.stopped()
-            self.fail(call, gone())
+            self.fail(call, call.stopped())
         else:
             self._deferred.append(call)
 
@@ -247,8 +321,9 @@ class Pipeline:
             self._leave()
 
     def _leave(self) -> None:
+        """A place is free: the first takes it that still wants it."""
         self.open -= 1
-        if self._waiting:
+        while self._waiting and self.up and self.open < PLACES:
             self.queue(self._waiting.popleft())
 
     def fail(self, call: Call[Any], fault: Exception) -> None:
@@ -274,8 +349,8 @@ class Pipeline:
         return f"{self._prefix}{self._numbers}"
 
     def line_id(self, id: str) -> str:
-        """How lines name the transaction of this id. Raises `OtherWorld`, and `ValueError` where it is none."""
-        return line_id(self.world, id)
+        """How lines name the transaction of this id. Raises `OtherWorld`, `OtherSite`, and `ValueError` where it is none."""
+        return line_id(self.world, self.number, id)
 
     def standing(self, id: str) -> Standing:
         """Where a transaction stands in this process, by the lines that went out."""
@@ -471,7 +546,7 @@ class Pipeline:
                 self._place(call)
 
     def _place_again(self, call: Call[Any]) -> None:
-        if call.again:
+        if call.again and call.waiter is not None:
             self.counts.again += 1
             self._place(call)
         else:
@@ -505,7 +580,9 @@ class Pipeline:
 
 
 _CHANGES = {Change}
-_MISSED: dict[type[Exception], str] = {Down: "down", Lost: "lost", Over: "over", Unknown: "unknown"}
+_MISSED: dict[type[Exception], str] = {
+    Busy: "busy", Down: "down", Lost: "lost", Over: "over", Unknown: "unknown",
+}  # fmt: skip
 _SIDES = {Kind.LOWER: "lower", Kind.RAISE: "raise_"}
 
 

@@ -8,11 +8,10 @@ import subprocess
 from collections.abc import Sequence
 from typing import NamedTuple, Optional, Union
 
-from .errors import ProgramError
-from .schema import Schema
+from .errors import Busy, ProgramError
+from .schema import Path, Schema, differs, header_fault
 from .values import Interval, Kind, Mark, Share
 
-Path = Union[str, "os.PathLike[str]"]
 NAMELESS = (
     "create() wants name=, the world's own, the same for all of its sites and no other world's: without it worlds of one "
     "schema are one world to carriers, and rights of the one would be spent in the other"
@@ -36,16 +35,27 @@ def find_program() -> str:
     return here
 
 
-def run(program: Optional[Path], words: Sequence[str], given: Optional[str] = None) -> str:
-    """What a run of the program printed. Raises `ProgramError` with its status and what it told."""
+def run(
+    program: Optional[Path], words: Sequence[str], given: Optional[str] = None, seconds: Optional[float] = None
+) -> str:
+    """What a run of the program printed. Raises `ProgramError` with its status and what it told, and `Busy` where it
+    isn't done in so many seconds: it is ended then."""
     command = [os.fspath(program) if program else find_program(), *words]
     try:
-        told = subprocess.run(command, input=given, capture_output=True, text=True, check=False)
+        told = subprocess.run(command, input=given, capture_output=True, text=True, check=False, timeout=seconds)
+    except subprocess.TimeoutExpired as fault:
+        raise Busy(f"{command[0]} {words[0]}: isn't done in time") from fault
     except OSError as fault:
         raise ProgramError(2, f"{command[0]}: {fault.strerror}") from fault
     if told.returncode != 0:
         raise ProgramError(told.returncode, told.stderr.strip())
     return told.stdout
+
+
+def _path(path: Path) -> str:
+    """A path as the program takes none for an option."""
+    text = os.fsdecode(path)
+    return os.path.join(os.curdir, text) if text.startswith("-") else text
 
 
 def create(folder: Path, schema: Union[Schema, Path], number: int, program: Optional[Path] = None, *,
@@ -55,15 +65,33 @@ def create(folder: Path, schema: Union[Schema, Path], number: int, program: Opti
     `schema` is that of the world, or the path of a file that has its header, and `name` is the world's own: 1 to 64 of
     `a-z A-Z 0-9 . _ -`, the same for all of its sites, and no other world's. Raises `TypeError` where there is none, and
     `ProgramError`: with status 3 where something is at the path, with 2 where the schema or the name is refused or the
-    world hasn't the site.
+    world hasn't the site. Of a schema that is refused it tells which field breaks which rule.
     """
     if name is None:
         raise TypeError(NAMELESS)
-    words = ["create", os.fspath(folder), "--name", name, "--site", str(number), "--schema"]
-    if isinstance(schema, Schema):
-        run(program, [*words, "/dev/stdin"], schema.line() + "\n")
-    else:
-        run(program, [*words, os.fspath(schema)])
+    words = ["create", _path(folder), f"--name={name}", f"--site={number}", "--schema"]
+    try:
+        if isinstance(schema, Schema):
+            run(program, [*words, "/dev/stdin"], schema.line() + "\n")
+        else:
+            run(program, [*words, _path(schema)])
+    except ProgramError as fault:
+        told = header_fault(schema) if ": header S" in str(fault) else ""
+        raise ProgramError(fault.status, f"{fault}: {told}") if told else fault
+
+
+def make_or_find(folder: Path, schema: Union[Schema, Path], number: int, program: Optional[Path],
+                 name: Optional[str]) -> None:
+    """As `create`, where the folder of this very site, of this world, may be there already. Raises `ProgramError` with
+    status 3 where what is there is another's."""
+    try:
+        create(folder, schema, number, program, name=name)
+    except ProgramError as fault:
+        if fault.status != 3 or not os.path.exists(os.path.join(folder, "site")):
+            raise
+        why = differs(os.fsdecode(folder), schema, number, name or "")
+        if why:
+            raise ProgramError(3, f"{os.fsdecode(folder)}: is there already, and {why}") from fault
 
 
 class Totals(NamedTuple):
@@ -93,13 +121,13 @@ class Shown(NamedTuple):
     accepted: tuple[Totals, ...]
 
 
-def show(folder: Path, program: Optional[Path] = None) -> Shown:
+def show(folder: Path, program: Optional[Path] = None, *, timeout: Optional[float] = None) -> Shown:
     """What the log in the folder stands for, also while the site is served: then it is a front of its records.
 
     Takes the time of a read of the whole log. Raises `ProgramError`, with status 3 where the folder or the log is
-    refused.
+    refused; `Busy` where that takes longer than `timeout` seconds, where there is one.
     """
-    lines = [line.split(" ") for line in run(program, ["show", os.fspath(folder)]).splitlines()]
+    lines = [line.split(" ") for line in run(program, ["show", _path(folder)], None, timeout).splitlines()]
     numbers = {words[0]: int(words[1]) for words in lines if words[0] in ("epoch", "length")}
     fields = {words[1]: _field(words) for words in lines if words[0] == "field"}
     return Shown(Mark(numbers["epoch"], numbers["length"]), fields, _totals(lines, "given"), _totals(lines, "accepted"))

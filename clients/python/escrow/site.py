@@ -6,22 +6,27 @@ import asyncio
 import fcntl
 import os
 import time
+import warnings
 import weakref
 from asyncio import get_running_loop
 from collections.abc import Callable
-from typing import Optional
+from functools import partial
+from types import MethodType
+from typing import Any, NoReturn, Optional, Union
 
-from .asking import ask, ask_behind_stop, async_ask_behind_stop, async_kept, is_kept, kept
-from .calls import Change, Kept, Line
-from .desk import Desks
+from .asking import ask, ask_behind_stop, async_ask_behind_stop, async_kept, end_of, is_kept, kept
+from .calls import Change, Kept, Line, Shape
+from .desk import NEVER, Ask, Desks
+from .dropped import closer
 from .errands import Errands
 from .errors import Down, Interrupted
 from .gauges import Gauges
+from .holding import Holding
 from .numbers import SHORT, amount_of, line_id, site_of
 from .pipeline import Counts, Pipeline, Watch
-from .program import Path, find_program
+from .program import create, find_program, make_or_find
 from .records import Records
-from .schema import identity
+from .schema import Path, Schema, identity
 from .steps import GivenKey, Steps, TightenedKey, share
 from .supervisor import Backoff, Orders, Supervisor
 from .transaction import AsyncTransaction, Before, Transaction
@@ -45,7 +50,13 @@ class Site:
     Amounts and changes are whole numbers of a field's own quantities, which are also what rights are counted in; a site
     takes 1 to 2 * 10^15. Each call raises `TypeError` where one is no whole number, and `ValueError` where it is below
     0 or a line has no room for it, with nothing asked.
+
+    Each call may have a `timeout` in seconds; without one it has the site's, and `math.inf` is none. Where it is up `Busy`
+    is raised if nothing was asked, or what was asked changes nothing. Else that is `Unknown`: it may yet happen, and its
+    `id` tells of which transaction `outcome` is to be asked, where it was one.
     """
+
+    _is_open = False
 
     def __init__(
         self,
@@ -60,6 +71,9 @@ class Site:
         wait: float = 10.0,
         patience: float = 30.0,
         backoff: Backoff = Backoff(),
+        timeout: Optional[float] = None,
+        most_waiting: Optional[int] = None,
+        held: Optional[float] = 60.0,
     ) -> None:
         """Serves the site of this folder, and returns once it stands.
 
@@ -69,7 +83,10 @@ class Site:
         as committed. The log is asked for it once, before any other call, and a site whose log hasn't got it is closed.
         A later start, behind a stop, isn't asked again: it is told the mark of the start before as `not_before`.
         `metrics` counts what happens. `wait` is how many seconds this waits at most, `patience` how many a call waits
-        for a site that doesn't stand, and `backoff` how many pass before a new start.
+        for a site that doesn't stand, and `backoff` how many pass before a new start. `timeout` is that of calls which
+        have none of their own; without it they wait as long as it takes. Where `most_waiting` calls wait for an answer
+        (`unanswered`) one more is `Busy` at once, unless it ends a transaction or is `outcome`. A transaction that is
+        held for `held` seconds is warned of in the log, under `escrow`, where starts and stops are told too.
 
         Raises `Down` where it doesn't stand in time, at once where the folder or the log is refused (`status` 3), the
         command line is (2), the disk has a fault (5), or another `Site` of this machine has the folder (6); a disk that
@@ -79,8 +96,8 @@ class Site:
         self.folder = os.path.abspath(os.fspath(folder))
         self.number, self.world, self.schema = identity(self.folder)
         if last_id is not None:
-            line_id(self.world[:SHORT], last_id)
-        self.metrics = metrics
+            line_id(self.world[:SHORT], self.number, last_id)
+        self.metrics, self.timeout = metrics, timeout
         self.on_statement: list[Callable[[Statement], object]] = []
         """Called with each statement that is issued, in a thread of its own, in order: it has to reach its receiver."""
         self.on_start: list[Callable[[], object]] = []
@@ -91,11 +108,14 @@ class Site:
         self._is_fork = False
         self._folder_lock = _lock(os.path.join(self.folder, "site"))
         names = frozenset(field.name for field in self.schema.fields)
-        self.pipeline = Pipeline(self.number, self.world, names, self._issued, metrics)
+        holding, issued = Holding(held, self._clock.after, self.folder), _weakly(self._issued)
+        self.pipeline = Pipeline(self.number, self.world, names, issued, metrics, holding, most_waiting)
         self._steps = Steps(self.pipeline, self.folder, self._program)
         options = (*(("--trace",) if trace else ()), *(() if sync else ("--no-sync",)))
         orders = Orders(self.folder, (self._program, "serve", self.folder, *options), backoff, patience)
-        self._supervisor = Supervisor(orders, self.pipeline, self._started, metrics, not_before)
+        self._supervisor = Supervisor(orders, self.pipeline, _weakly(self._started), metrics, not_before)
+        self._is_open = True
+        closer.watch()
         _open_sites.add(self)
         end = time.monotonic() + wait
         try:
@@ -105,8 +125,32 @@ class Site:
         except Down:
             self.close(max(0.0, end - time.monotonic()))
             raise
-        if hasattr(metrics, "looks_at"):
+        if metrics is not None and hasattr(metrics, "looks_at"):
             metrics.looks_at(Gauges(self.pipeline, self.folder, self.schema))
+
+    @classmethod
+    def create(
+        cls,
+        folder: Path,
+        schema: Union[Schema, Path],
+        number: int,
+        program: Optional[Path] = None,
+        *,
+        name: Optional[str] = None,
+        exist_ok: bool = False,
+        **options: Any,
+    ) -> Site:
+        """Makes the folder of a site, as `escrow.create`, and serves it, as `Site` with these options.
+
+        With `exist_ok` the folder may be there already, where it is this very site's: of this number, in the world of
+        this name and this very header. Another's is refused, and left as it is: `ProgramError` with status 3, as without
+        `exist_ok` where anything is there. Raises what both raise.
+        """
+        if exist_ok:
+            make_or_find(folder, schema, number, program, name)
+        else:
+            create(folder, schema, number, program, name=name)
+        return cls(folder, program, **options)
 
     def _wait(self, seconds: float) -> None:
         stands, why = self._supervisor.wait(seconds), self.pipeline.dead
@@ -144,7 +188,7 @@ class Site:
         assert mark is not None
         return mark
 
-    def newest_mark(self) -> Mark:
+    def newest_mark(self, *, timeout: Optional[float] = None) -> Mark:
         """How far its log has come by now, as far as that is safe: for a start elsewhere, as `mark`.
 
         The file may have records of a batch that isn't synced yet. So their length is taken first, and then the site is
@@ -152,11 +196,12 @@ class Site:
         the log before the question is of earlier batches: with the answer it is safe. What a stop left half-written is
         cut off before the next process stands: so a length counts where the process that stood before it was taken
         answers. It is never less than `mark`. Of a log of version 2 the first call behind a start reads all, as the start
-        does, and a later one what came since. Raises `Down`, and `OSError` where the log can't be looked at.
+        does, and a later one what came since. Raises `Down`, `Busy`, and `OSError` where the log can't be looked at.
         """
+        end = end_of(timeout, self.timeout)
         while True:
             epoch, length = self.epoch, self._records.length()
-            self.share(self.schema.fields[0].name)
+            ask(self.pipeline, self._share(self.schema.fields[0].name), end)
             mark = self.mark
             if mark.epoch == epoch == self.epoch:
                 return Mark(epoch, max(length, mark.length))
@@ -193,18 +238,21 @@ class Site:
 
     # What can be asked.
 
-    def transaction(self, seconds: Optional[float] = None) -> Transaction:
-        """A transaction, for `with`. With a time limit it is a reservation: so many seconds after its first call it is
-        aborted, unless it has ended by then. At most 63 are open at once: the first call of the next one waits. A stop
-        of the site aborts it."""
-        return Transaction(self.pipeline, self._clock, seconds)
+    def transaction(self, seconds: Optional[float] = None, *, timeout: Optional[float] = None) -> Transaction:
+        """A transaction, for `with`. With a time limit it is aborted so many seconds after its first call, unless it has
+        ended by then. At most 63 are open at once: the first call of the next one waits. A stop of the site aborts it,
+        so what is to last is committed, and its opposite later. `timeout` is that of each of its calls."""
+        return Transaction(self.pipeline, self._clock, seconds, self.timeout if timeout is None else timeout, self)
 
-    def change(self, field: str, change: int, before: Optional[Before] = None) -> str:
+    def change(
+        self, field: str, change: int, before: Optional[Before] = None, *, timeout: Optional[float] = None
+    ) -> str:
         """A transaction of one change in one trip: the id, once it is committed.
 
         Below 0 lowers the field by so many quantities, above 0 raises it. Raises `Short` and other `Refused`, with
-        nothing changed; `Down`; `Unknown`, with the id, where a stop left the answer out and the site doesn't stand
-        again in time. Else a stop isn't seen: it happens once.
+        nothing changed; `Down`; `Busy`, where its time was up before it was asked; `Unknown`, with the id, where a stop
+        left the answer out and the site doesn't stand again in time, or its own time was up. Else a stop isn't seen: it
+        happens once.
 
         A caller that dies doesn't know the id. So `before`, where there is one, is called with it once the rights are
         set aside, ahead of the commit, which then takes a trip of its own: write it beside the order, and ask
@@ -212,98 +260,103 @@ class Site:
         another id: then those before it aren't committed, and never will be. What it raises comes through, with
         nothing changed. It holds one of the 63 places of open transactions, and may call the site.
         """
+        end = end_of(timeout, self.timeout)
         if before is not None:
-            return self._change_behind(before, field, change)
+            return self._change_behind(before, field, change, end)
         shape = self.pipeline.shape(field, change)
         while True:
             call = Change()
             call.shape = shape
             try:
-                ask(self.pipeline, call)
+                ask(self.pipeline, call, end)
                 return self.pipeline.front + call.id
             except Interrupted:
                 id = self.pipeline.front + call.id
-                if kept(self.pipeline, id) is Outcome.COMMITTED:
+                if kept(self.pipeline, id, end) is Outcome.COMMITTED:
                     return id
 
-    def _change_behind(self, before: Before, field: str, change: int) -> str:
+    def _change_behind(self, before: Before, field: str, change: int, end: float) -> str:
         while True:
             t = self.transaction()
-            if t.only(field, change, before):
+            if t.only(field, change, before, end):
                 return t.id
 
-    def give(self, to: int, field: str, kind: Kind, amount: int) -> Statement:
+    def give(self, to: int, field: str, kind: Kind, amount: int, *, timeout: Optional[float] = None) -> Statement:
         """Gives free rights of a kind to another site: the statement that has to reach it.
 
-        Raises `Short` and other `Refused`, with nothing given; `Down`; `Unknown` where a stop left the answer out and
-        it can't be told: then `restate`. Else a stop isn't seen: it happens once.
+        Raises `Short` and other `Refused`, with nothing given; `Down`; `Busy`; `Unknown` where a stop left the answer
+        out and it can't be told, or its time was up: then `restate`. Else a stop isn't seen: it happens once.
         """
-        return self._steps.give(self._key(to, field, kind), amount_of(amount)).statement
+        end = end_of(timeout, self.timeout)
+        return self._steps.give(self._key(to, field, kind), amount_of(amount), end).statement
 
-    def spare(self, to: int, field: str, kind: Kind, amount: int) -> Spared:
+    def spare(self, to: int, field: str, kind: Kind, amount: int, *, timeout: Optional[float] = None) -> Spared:
         """Gives as many as are wanted, and at most half of the share, rounded up. Raises as `give`: `Short` where the
         share is 0."""
-        return self._steps.spare(self._key(to, field, kind), amount_of(amount))
+        return self._steps.spare(self._key(to, field, kind), amount_of(amount), end_of(timeout, self.timeout))
 
-    def restate(self, to: int, field: str, kind: Kind) -> Statement:
-        """The statement of all that was given to that site so far. Raises `NothingGiven`, another `Refused`, `Down`.
-        Asked again after a stop."""
-        return self._steps.restate(self._key(to, field, kind))
+    def restate(self, to: int, field: str, kind: Kind, *, timeout: Optional[float] = None) -> Statement:
+        """The statement of all that was given to that site so far. Raises `NothingGiven`, another `Refused`, `Down`,
+        `Busy`. Asked again after a stop."""
+        return self._steps.restate(self._key(to, field, kind), end_of(timeout, self.timeout))
 
     def _key(self, to: int, field: str, kind: Kind) -> GivenKey:
         return GivenKey(site_of(to), self.pipeline.known(field), Kind(kind))
 
-    def accept(self, statement: Statement) -> int:
+    def accept(self, statement: Statement, *, timeout: Optional[float] = None) -> int:
         """Takes the rights of a statement: how many were new, 0 where all were accepted before.
 
         Raises `Forged` where no site can have issued it, another `Refused`, `Down`. Asked again after a stop that left
         the answer out: then 0 may also mean that the unanswered one took them. The rights are there either way.
-        `Unknown` where it can't be asked again in time: accept it again later.
+        `Busy`, and `Unknown` where it isn't answered in time, or can't be asked again in time: accept it again later.
         """
-        call = self._acceptance(statement)
+        call, end = self._acceptance(statement), end_of(timeout, self.timeout)
         try:
-            return ask(self.pipeline, call)
+            return ask(self.pipeline, call, end)
         except Interrupted:
-            return ask_behind_stop(self.pipeline, call)
+            return ask_behind_stop(self.pipeline, call, None, end)
 
     def _acceptance(self, statement: Statement) -> Line[int]:
         giver, to, field, kind, total = statement
         words = f"{site_of(giver)} {site_of(to)} {self.pipeline.known(field)} {Kind(kind).value} {amount_of(total)}"
         return Line(Command.ACCEPT, f"{self.number} accept {words}", lambda told: int(told[1]), again=False)
 
-    def tighten(self, field: str, kind: Kind, amount: int) -> int:
+    def tighten(self, field: str, kind: Kind, amount: int, *, timeout: Optional[float] = None) -> int:
         """Gives free rights up for good: rights to lower raise the floor, rights to raise lower the ceiling. All that
         this site has given up so far, of the kind, on the field.
 
-        Raises `Short` and other `Refused`, with nothing given up; `Down`; `Unknown` where a stop left the answer out
-        and it can't be told; `ProgramError` where the log can't be shown, with nothing given up. Else a stop isn't
-        seen: it happens once.
+        Raises `Short` and other `Refused`, with nothing given up; `Down`; `Busy`; `Unknown` where a stop left the answer
+        out and it can't be told, or its time was up; `ProgramError` where the log can't be shown, with nothing given
+        up. Else a stop isn't seen: it happens once.
         """
-        return self._steps.tighten(TightenedKey(self.pipeline.known(field), Kind(kind)), amount_of(amount))
+        key, end = TightenedKey(self.pipeline.known(field), Kind(kind)), end_of(timeout, self.timeout)
+        return self._steps.tighten(key, amount_of(amount), end)
 
-    def read(self, field: str) -> Interval:
-        """Between which values the field's committed value lies. Raises `Refused`, `Down`. Asked again after a stop."""
-        return ask(self.pipeline, self._read(field))
+    def read(self, field: str, *, timeout: Optional[float] = None) -> Interval:
+        """Between which values the field's committed value lies. Raises `Refused`, `Down`, `Busy`. Asked again after a
+        stop."""
+        return ask(self.pipeline, self._read(field), end_of(timeout, self.timeout))
 
     def _read(self, field: str) -> Line[Interval]:
         line = f"{self.number} read {self.pipeline.known(field)}"
         return Line(Command.READ, line, lambda told: Interval(int(told[1]), int(told[2])), again=True, field=field)
 
-    def share(self, field: str) -> Share:
-        """How many rights are free here, of each kind. Raises `Refused`, `Down`. Asked again after a stop."""
-        return ask(self.pipeline, self._share(field))
+    def share(self, field: str, *, timeout: Optional[float] = None) -> Share:
+        """How many rights are free here, of each kind. Raises `Refused`, `Down`, `Busy`. Asked again after a stop."""
+        return ask(self.pipeline, self._share(field), end_of(timeout, self.timeout))
 
     def _share(self, field: str) -> Line[Share]:
         return share(self.number, self.pipeline.known(field))
 
-    def outcome(self, id: str) -> Outcome:
+    def outcome(self, id: str, *, timeout: Optional[float] = None) -> Outcome:
         """What became of a transaction, by the log: also of one of a client that died.
 
-        Raises `OtherWorld` where its id tells another world than this site's; `Unknown` where it is of a later start than
-        any that this log has: then an older log was put back; `ValueError` where it is no id, or none of this epoch yet;
-        `Down`. An id that tells no world, as clients of earlier days gave them, is taken for one of this world.
+        Raises `OtherWorld` where its id tells another world than this site's, and `OtherSite` where it tells another site;
+        `Unknown` where it is of a later start than any that this log has: then an older log was put back; `ValueError`
+        where it is no id, or none of this epoch yet; `Down`; `Busy` where its time was up: ask again. An id that tells
+        no world or no site, as clients of earlier days gave them, is taken for one of this site.
         """
-        return ask(self.pipeline, self._kept(id))
+        return ask(self.pipeline, self._kept(id), end_of(timeout, self.timeout))
 
     def _kept(self, id: str) -> Kept:
         return Kept(id, self.pipeline.line_id(id))
@@ -317,6 +370,7 @@ class Site:
         """
         if self._is_fork:
             return
+        self._is_open = False
         self._supervisor.close(seconds)
         self._clock.close(seconds)
         self._hooks.close(seconds)
@@ -337,6 +391,41 @@ class Site:
     def __exit__(self, *_: object) -> None:
         self.close()
 
+    def __del__(self) -> None:
+        """It was dropped: its process ends soon."""
+        if not self._is_open or self._is_fork:
+            return
+        closer.close(partial(_close_dropped, self._supervisor, self._clock, self._hooks, self._folder_lock))
+        warnings.warn(f"{self.folder}: a Site was dropped open: close it, or use it by with", ResourceWarning, source=self)
+
+
+def _close_dropped(supervisor: Supervisor, clock: Errands, hooks: Errands, held: int) -> None:
+    supervisor.close(10.0)
+    clock.close(10.0)
+    hooks.close(10.0)
+    if held >= 0:
+        os.close(held)
+
+
+def _weakly(method: Callable[..., object]) -> Callable[..., None]:
+    """Calls a method of what is still there: so the threads of a site don't keep it."""
+    assert isinstance(method, MethodType)
+    held = weakref.WeakMethod(method)
+
+    def call(*words: object) -> None:
+        found = held()
+        if found is not None:
+            found(*words)
+
+    return call
+
+
+class _Unserved:
+    """Stands for what an `AsyncSite` has once its site is served."""
+
+    def __getattr__(self, name: str) -> NoReturn:
+        raise RuntimeError("its site isn't served yet: async with AsyncSite(folder) does that")
+
 
 class AsyncSite:
     """The same site for the tasks of one event loop. It shares the process of a `Site`, which starts and closes it.
@@ -345,90 +434,142 @@ class AsyncSite:
     is the fastest; as soon as a thread asks, or another loop, a thread reads for all. Among the calls `change` is the
     fastest: one trip, where a transaction takes one for each change and one for the commit.
 
-    Both of these block: make the `Site` before the loop runs, and close it behind it, or by `asyncio.to_thread`. A task
-    that is cancelled while it waits doesn't learn whether its change was made: shield it, or ask `outcome`.
+    `async with AsyncSite(folder, ..) as shop` makes a `Site` of that folder, with the same options, and closes it at the
+    end. Where a `Site` is given that one stays open: making and closing it block, so make it before the loop runs, and
+    close it behind it, or by `asyncio.to_thread`. A task that is cancelled while it waits doesn't learn whether its
+    change was made: shield it, give it a `timeout`, whose `Unknown` has the id, or ask `outcome`.
     """
 
-    def __init__(self, site: Site) -> None:
+    site: Site
+    _pipeline: Pipeline
+    _desks: Desks
+    _ask: Ask
+    _shapes: dict[tuple[str, int], Shape]
+    _front: str
+
+    def __init__(self, site: Union[Site, Path], *, timeout: Optional[float] = None, **options: Any) -> None:
+        """`timeout` is that of calls which have none of their own; without it they have the site's."""
+        self.timeout = timeout
+        self._folder: Optional[Path] = None
+        if isinstance(site, Site):
+            if options:
+                raise TypeError(f"the Site is made already: {', '.join(options)} come too late")
+            self._serve(site)
+        else:
+            self._folder, self._options = os.fspath(site), options
+            nothing: Any = _Unserved()
+            self.site = self._pipeline = self._desks = self._ask = nothing
+            self._shapes, self._front = {}, ""
+
+    def _serve(self, site: Site) -> None:
         self.site = site
+        if self.timeout is None:
+            self.timeout = site.timeout
         self._pipeline = site.pipeline
         self._shapes, self._front = site.pipeline.shapes, site.pipeline.front
         self._desks = Desks(site.pipeline)
         self._ask = self._desks.ask
 
-    def transaction(self, seconds: Optional[float] = None) -> AsyncTransaction:
-        """As `Site.transaction`, for `async with`."""
-        return AsyncTransaction(self.site.pipeline, self.site._clock, seconds, self._ask)
+    async def __aenter__(self) -> AsyncSite:
+        if self._folder is not None:
+            self._serve(await asyncio.to_thread(Site, self._folder, **self._options))
+        return self
 
-    async def change(self, field: str, change: int, before: Optional[Before] = None) -> str:
+    async def __aexit__(self, *_: object) -> None:
+        if self._folder is not None:
+            await self.close()
+
+    async def close(self, seconds: float = 10.0) -> None:
+        """As `Site.close`, in a thread: also of a site that was given."""
+        await asyncio.to_thread(self.site.close, seconds)
+
+    def transaction(self, seconds: Optional[float] = None, *, timeout: Optional[float] = None) -> AsyncTransaction:
+        """As `Site.transaction`, for `async with`."""
+        limit, site = self._own(timeout), self.site
+        return AsyncTransaction(self._pipeline, site._clock, seconds, self._ask, limit, site)
+
+    def _own(self, timeout: Optional[float]) -> Optional[float]:
+        return self.timeout if timeout is None else timeout
+
+    async def change(
+        self, field: str, change: int, before: Optional[Before] = None, *, timeout: Optional[float] = None
+    ) -> str:
         """As `Site.change`. `before` is called in the loop; what it returns is awaited where it can be, as that of an
         `async def`."""
+        if timeout is None:
+            timeout = self.timeout
+        end = NEVER if timeout is None else time.monotonic() + timeout
         if before is not None:
-            return await self._change_behind(before, field, change)
-        shape = self._shapes.get((field, change)) or self._pipeline.shape(field, change)
+            return await self._change_behind(before, field, change, end)
+        shape = self._shapes.get((field, change)) if type(change) is int else None
+        if shape is None:
+            shape = self._pipeline.shape(field, change)
         while True:
             desk = self._desks.desk
             if desk is None or desk.loop is not get_running_loop():
                 desk = self._desks.here()
             call = Change()
             call.shape, call.answer, call.waiter = shape, None, desk
-            await call
-            if call.answer is None or await self._was_made(call):
+            if timeout is None:
+                await call
+            else:
+                await desk.in_time(call, end)
+            if call.answer is None or await self._was_made(call, end):
                 return self._front + call.id
 
-    async def _change_behind(self, before: Before, field: str, change: int) -> str:
+    async def _change_behind(self, before: Before, field: str, change: int, end: float) -> str:
         while True:
             t = self.transaction()
-            if await t.only(field, change, before):
+            if await t.only(field, change, before, end):
                 return t.id
 
-    async def _was_made(self, change: Change) -> bool:
+    async def _was_made(self, change: Change, end: float) -> bool:
         """Whether it was made, though a stop left its answer out. Raises the answer where there is one."""
         try:
             result_of(change)
         except Interrupted:
             pass
-        return await async_kept(self._pipeline, self._ask, self._front + change.id) is Outcome.COMMITTED
+        return await async_kept(self._pipeline, self._ask, self._front + change.id, end) is Outcome.COMMITTED
 
-    async def give(self, to: int, field: str, kind: Kind, amount: int) -> Statement:
+    async def give(self, to: int, field: str, kind: Kind, amount: int, *, timeout: Optional[float] = None) -> Statement:
         """As `Site.give`, in a thread."""
-        return await asyncio.to_thread(self.site.give, to, field, kind, amount)
+        return await asyncio.to_thread(self.site.give, to, field, kind, amount, timeout=self._own(timeout))
 
-    async def spare(self, to: int, field: str, kind: Kind, amount: int) -> Spared:
+    async def spare(self, to: int, field: str, kind: Kind, amount: int, *, timeout: Optional[float] = None) -> Spared:
         """As `Site.spare`, in a thread."""
-        return await asyncio.to_thread(self.site.spare, to, field, kind, amount)
+        return await asyncio.to_thread(self.site.spare, to, field, kind, amount, timeout=self._own(timeout))
 
-    async def restate(self, to: int, field: str, kind: Kind) -> Statement:
+    async def restate(self, to: int, field: str, kind: Kind, *, timeout: Optional[float] = None) -> Statement:
         """As `Site.restate`, in a thread."""
-        return await asyncio.to_thread(self.site.restate, to, field, kind)
+        return await asyncio.to_thread(self.site.restate, to, field, kind, timeout=self._own(timeout))
 
-    async def tighten(self, field: str, kind: Kind, amount: int) -> int:
+    async def tighten(self, field: str, kind: Kind, amount: int, *, timeout: Optional[float] = None) -> int:
         """As `Site.tighten`, in a thread."""
-        return await asyncio.to_thread(self.site.tighten, field, kind, amount)
+        return await asyncio.to_thread(self.site.tighten, field, kind, amount, timeout=self._own(timeout))
 
-    async def accept(self, statement: Statement) -> int:
+    async def accept(self, statement: Statement, *, timeout: Optional[float] = None) -> int:
         """As `Site.accept`."""
-        call = self.site._acceptance(statement)
+        call, end = self.site._acceptance(statement), end_of(timeout, self.timeout)
         try:
-            return await self._ask(call)
+            return await self._ask(call, end)
         except Interrupted:
-            return await async_ask_behind_stop(self._pipeline, self._ask, call)
+            return await async_ask_behind_stop(self._pipeline, self._ask, call, None, end)
 
-    async def read(self, field: str) -> Interval:
+    async def read(self, field: str, *, timeout: Optional[float] = None) -> Interval:
         """As `Site.read`."""
-        return await self._ask(self.site._read(field))
+        return await self._ask(self.site._read(field), end_of(timeout, self.timeout))
 
-    async def share(self, field: str) -> Share:
+    async def share(self, field: str, *, timeout: Optional[float] = None) -> Share:
         """As `Site.share`."""
-        return await self._ask(self.site._share(field))
+        return await self._ask(self.site._share(field), end_of(timeout, self.timeout))
 
-    async def newest_mark(self) -> Mark:
+    async def newest_mark(self, *, timeout: Optional[float] = None) -> Mark:
         """As `Site.newest_mark`, in a thread."""
-        return await asyncio.to_thread(self.site.newest_mark)
+        return await asyncio.to_thread(self.site.newest_mark, timeout=self._own(timeout))
 
-    async def outcome(self, id: str) -> Outcome:
+    async def outcome(self, id: str, *, timeout: Optional[float] = None) -> Outcome:
         """As `Site.outcome`."""
-        return await self._ask(self.site._kept(id))
+        return await self._ask(self.site._kept(id), end_of(timeout, self.timeout))
 
 
 def _lock(path: str) -> int:

@@ -9,12 +9,14 @@ from __future__ import annotations
 
 import contextlib
 import threading
+import time
 from collections.abc import Iterator
 from typing import Generic, NamedTuple, Optional, TypeVar
 
 from .asking import ask, unknown
 from .calls import Line
-from .errors import Down, Interrupted, NothingGiven, ProgramError
+from .desk import NEVER
+from .errors import Busy, Down, Interrupted, NothingGiven, ProgramError, Unknown
 from .pipeline import Pipeline
 from .program import show
 from .values import Command, Kind, Share, Spared, Statement
@@ -45,14 +47,28 @@ class Totals(Generic[K]):
         self._lock = threading.Lock()
         self._held: dict[K, threading.Lock] = {}
         self._known: dict[K, tuple[int, int]] = {}
+        self._doubted: set[K] = set()
 
     @contextlib.contextmanager
-    def hold(self, key: K) -> Iterator[None]:
-        """Keeps others from a step of this total: waits for whoever takes one."""
+    def hold(self, key: K, end: float) -> Iterator[None]:
+        """Keeps others from a step of this total: waits for whoever takes one. A step that is in doubt may be taken yet, so
+        the total isn't known behind it. Raises `Busy` where it isn't free by this end."""
         with self._lock:
             held = self._held.setdefault(key, threading.Lock())
-        with held:
+        if not held.acquire(timeout=_seconds_to(end)):
+            raise Busy("another step of this total isn't done in time: nothing was begun")
+        try:
             yield
+        except Unknown:
+            self._known.pop(key, None)
+            self._doubted.add(key)
+            raise
+        finally:
+            held.release()
+
+    def is_doubted(self, key: K) -> bool:
+        """Whether a step may be under way of which nobody waits to hear."""
+        return key in self._doubted
 
     def get(self, key: K, era: int) -> Optional[int]:
         """The total, where it was told in this era."""
@@ -62,6 +78,12 @@ class Totals(Generic[K]):
     def put(self, key: K, era: int, total: int) -> None:
         """The total as it was told."""
         self._known[key] = era, total
+        self._doubted.discard(key)
+
+
+def _seconds_to(end: float) -> float:
+    """For a lock: how long to wait for it."""
+    return -1.0 if end == NEVER else min(max(0.0, end - time.monotonic()), threading.TIMEOUT_MAX)
 
 
 class Steps:
@@ -72,46 +94,46 @@ class Steps:
         self._given: Totals[GivenKey] = Totals()
         self._tightened: Totals[TightenedKey] = Totals()
 
-    def give(self, key: GivenKey, amount: int) -> Spared:
+    def give(self, key: GivenKey, amount: int, end: float = NEVER) -> Spared:
         """Gives so many rights."""
 
         def read(told: list[str]) -> Spared:
             return Spared(amount, self._statement(key, int(told[1])))
 
-        return self._gift(key, Line(Command.GIVE, self._line(Command.GIVE, key, f" {amount}"), read, again=False))
+        return self._gift(key, Line(Command.GIVE, self._line(Command.GIVE, key, f" {amount}"), read, again=False), end)
 
-    def spare(self, key: GivenKey, amount: int) -> Spared:
+    def spare(self, key: GivenKey, amount: int, end: float = NEVER) -> Spared:
         """Gives at most so many rights, and at most half of those that are free."""
 
         def read(told: list[str]) -> Spared:
             return Spared(int(told[1]), self._statement(key, int(told[2])))
 
-        return self._gift(key, Line(Command.SPARE, self._line(Command.SPARE, key, f" {amount}"), read, again=False))
+        return self._gift(key, Line(Command.SPARE, self._line(Command.SPARE, key, f" {amount}"), read, again=False), end)
 
-    def _gift(self, key: GivenKey, line: Line[Spared]) -> Spared:
-        with self._given.hold(key):
+    def _gift(self, key: GivenKey, line: Line[Spared], end: float) -> Spared:
+        with self._given.hold(key, end):
             while True:
                 era = self._pipeline.era
-                before = self._total_given(key, era)
+                before = self._total_given(key, era, end)
                 try:
-                    spared = ask(self._pipeline, line)
+                    spared = ask(self._pipeline, line, end)
                 except Interrupted:
-                    spared = self._found(key, before, era)
+                    spared = self._found(key, before, era, end)
                 self._given.put(key, era, spared.statement.total)
                 if spared.amount > 0:
                     return spared
 
-    def _total_given(self, key: GivenKey, era: int) -> int:
+    def _total_given(self, key: GivenKey, era: int, end: float) -> int:
         total = self._given.get(key, era)
         if total is None:
-            total = self._restated(key)
+            total = self._restated(key, end)
             self._given.put(key, era, total)
         return total
 
-    def _found(self, key: GivenKey, before: int, era: int) -> Spared:
+    def _found(self, key: GivenKey, before: int, era: int, end: float) -> Spared:
         """What a stop left of a gift: nothing where it wasn't given."""
         with self._behind_a_stop():
-            total = self._restated(key)
+            total = self._restated(key, end)
         self._check(era)
         return Spared(total - before, self._statement(key, total))
 
@@ -119,26 +141,26 @@ class Steps:
     def _behind_a_stop(self) -> Iterator[None]:
         try:
             yield
-        except (Down, ProgramError) as fault:
+        except (Down, Busy, ProgramError) as fault:
             raise unknown(self._pipeline, fault) from fault
 
     def _check(self, era: int) -> None:
         if era != self._pipeline.era:
             raise unknown(self._pipeline, _OTHERS)
 
-    def _restated(self, key: GivenKey) -> int:
+    def _restated(self, key: GivenKey, end: float) -> int:
         try:
-            return self.restate(key).total
+            return self.restate(key, end).total
         except NothingGiven:
             return 0
 
-    def restate(self, key: GivenKey) -> Statement:
+    def restate(self, key: GivenKey, end: float = NEVER) -> Statement:
         """The statement of all that was given so far."""
 
         def read(told: list[str]) -> Statement:
             return self._statement(key, int(told[1]))
 
-        return ask(self._pipeline, Line(Command.RESTATE, self._line(Command.RESTATE, key), read, again=True))
+        return ask(self._pipeline, Line(Command.RESTATE, self._line(Command.RESTATE, key), read, again=True), end)
 
     def _statement(self, key: GivenKey, total: int) -> Statement:
         return Statement(self._pipeline.number, key.to, key.field, key.kind, total)
@@ -146,42 +168,45 @@ class Steps:
     def _line(self, command: Command, key: GivenKey, amount: str = "") -> str:
         return f"{self._pipeline.number} {command.value} {key.to} {key.field} {key.kind.value}{amount}"
 
-    def tighten(self, key: TightenedKey, amount: int) -> int:
+    def tighten(self, key: TightenedKey, amount: int, end: float = NEVER) -> int:
         """Gives so many rights up: all that were given up so far."""
         line = f"{self._pipeline.number} tighten {key.field} {key.kind.value} {amount}"
         call = Line(Command.TIGHTEN, line, lambda told: int(told[1]), again=False)
-        with self._tightened.hold(key):
+        with self._tightened.hold(key, end):
             while True:
                 era = self._pipeline.era
-                before = self._total_tightened(key, era)
+                before = self._total_tightened(key, era, end)
                 try:
-                    total = ask(self._pipeline, call)
+                    total = ask(self._pipeline, call, end)
                 except Interrupted:
-                    total = self._found_tightened(key, era)
+                    total = self._found_tightened(key, era, end)
                 self._tightened.put(key, era, total)
                 if total > before:
                     return total
 
-    def _total_tightened(self, key: TightenedKey, era: int) -> int:
+    def _total_tightened(self, key: TightenedKey, era: int, end: float) -> int:
         total = self._tightened.get(key, era)
         if total is None:
-            total = self._shown(key)
+            if self._tightened.is_doubted(key):
+                self.share(key.field, end)  # it is answered behind the step in doubt: then the log has it
+            total = self._shown(key, end)
             self._tightened.put(key, era, total)
         return total
 
-    def _found_tightened(self, key: TightenedKey, era: int) -> int:
+    def _found_tightened(self, key: TightenedKey, era: int, end: float) -> int:
         with self._behind_a_stop():
-            self.share(key.field)  # it is answered once the site stands again: then the log has what there was
-            total = self._shown(key)
+            self.share(key.field, end)  # it is answered once the site stands again: then the log has what there was
+            total = self._shown(key, end)
         self._check(era)
         return total
 
-    def _shown(self, key: TightenedKey) -> int:
-        return show(self._folder, self._program).fields[key.field].tightened.of(key.kind)
+    def _shown(self, key: TightenedKey, end: float) -> int:
+        seconds = None if end == NEVER else max(0.0, end - time.monotonic())
+        return show(self._folder, self._program, timeout=seconds).fields[key.field].tightened.of(key.kind)
 
-    def share(self, field: str) -> Share:
+    def share(self, field: str, end: float = NEVER) -> Share:
         """The free rights."""
-        return ask(self._pipeline, share(self._pipeline.number, field))
+        return ask(self._pipeline, share(self._pipeline.number, field), end)
 
 
 def share(number: int, field: str, again: bool = True) -> Line[Share]:

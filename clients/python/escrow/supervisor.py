@@ -2,6 +2,7 @@
 
 from __future__ import annotations
 
+import logging
 import os
 import select
 import signal
@@ -19,6 +20,7 @@ from .records import served_between
 from .room import has_room
 from .values import Mark
 
+log = logging.getLogger("escrow")
 VERSION = "1"
 """The version of the ready line and of all that follows it."""
 DISK = 5
@@ -121,6 +123,8 @@ class Supervisor:
             why = Down(f"a fault of the client: {fault!r}")
             raise
         finally:
+            if not self._closing.is_set():
+                log.error("%s: the site isn't started again: %s", self._orders.folder, why)
             self._closing.set()
             self._pipeline.die(why)
             self._stood.set()
@@ -219,6 +223,7 @@ class Supervisor:
             self._watch.started(*mark)
         self._pipeline.stand(mark.epoch, os.dup(to.fileno()))
         to.close()
+        log.info("%s: the site stands: epoch %d, process %s", self._orders.folder, mark.epoch, self.pid)
         self._started()
         self._stood.set()
         return True
@@ -239,6 +244,10 @@ class Supervisor:
         self._tell_end(self.last_status)
 
     def _tell_end(self, status: int) -> None:
+        if status == 0:  # it was closed, or its numbers were used up
+            log.info("%s: the site's process has ended", self._orders.folder)
+        else:
+            log.warning("%s: the site stopped, status %d: %s", self._orders.folder, status, self.last_error)
         if self._watch is not None:
             self._watch.stopped(status)
             fault = device_fault(self.last_error) if status == DISK else None

@@ -8,11 +8,11 @@ from collections.abc import Callable
 from types import TracebackType
 from typing import Optional
 
-from .asking import ask, async_kept, kept
+from .asking import ask, async_kept, end_of, kept
 from .calls import Abort, Call, Commit, First, GiveBack, Later, Run
 from .desk import Ask
 from .errands import Entry, Errands
-from .errors import Down, Interrupted, Lost, Over, Refused, gone
+from .errors import Busy, Cause, Down, Interrupted, Lost, Over, Refused, Unknown, gone, over
 from .numbers import amount_of, change_of
 from .pipeline import Pipeline
 from .values import Outcome
@@ -30,10 +30,7 @@ class State(enum.Enum):
 Before = Callable[[str], object]
 """What is called with the id of a transaction ahead of its commit."""
 _NEW, _OPEN = State.NEW, State.OPEN
-_WHY = {
-    State.ENDED: "the transaction has ended: it was committed or aborted",
-    State.EXPIRED: "the transaction has ended: its time was up",
-}
+_CAUSES = {State.ENDED: Cause.ENDED, State.EXPIRED: Cause.EXPIRED}
 
 
 class BaseTransaction:
@@ -44,9 +41,15 @@ class BaseTransaction:
     is up before the `begin` went out keeps it from going out, and one that is up later gives back what was set aside.
     """
 
-    def __init__(self, pipeline: Pipeline, clock: Errands, seconds: Optional[float]) -> None:
-        self._pipeline, self._clock, self._seconds = pipeline, clock, seconds
+    def __init__(
+        self, pipeline: Pipeline, clock: Errands, seconds: Optional[float], timeout: Optional[float] = None,
+        site: object = None,
+    ) -> None:
+        """`timeout` is that of its calls, and `site` is kept as long as it is."""
+        self._pipeline, self._clock, self._seconds, self._timeout = pipeline, clock, seconds, timeout
+        self._site = site
         self._state = State.NEW
+        self._is_told = False  # what became of it was asked for, by a commit or an abort
         self._epoch = 0
         self._first: Optional[First] = None
         self._limit: Optional[Entry] = None
@@ -72,7 +75,7 @@ class BaseTransaction:
         """Its id, where it is still open. Raises `Over` where it isn't."""
         self._check()
         if self._epoch != run.epoch:
-            raise gone()
+            raise gone(self.id)
         return self.line_id
 
     def ends(self, run: Run) -> str:
@@ -80,7 +83,7 @@ class BaseTransaction:
         self._check()
         self._end()
         if self._epoch != run.epoch:
-            raise gone()
+            raise gone(self.id)
         self._pipeline.open_ids.discard(self.line_id)
         return self.line_id
 
@@ -89,20 +92,40 @@ class BaseTransaction:
         if self._state is State.OPEN:
             self._end()
 
+    def unbegun(self) -> None:
+        """It was to begin, and its begin won't go out: it may begin by another call."""
+        if self._state is State.OPEN:
+            self._end()
+            self._state, self.line_id, self.id = State.NEW, "", ""
+
+    def given_up(self) -> None:
+        """A call of it is in doubt, so it ends, and gives back what it has set aside."""
+        if self._state is State.OPEN:
+            self._end()
+            self._give_back()
+
     def _end(self) -> None:
         self._state = State.ENDED
         if self._limit is not None:
             self._clock.cancel(self._limit)
 
+    def _give_back(self) -> bool:
+        """Whether there is a process that has it open."""
+        is_there = self._pipeline.up and self._epoch == self._pipeline.epoch
+        if is_there:
+            self._pipeline.open_ids.discard(self.line_id)
+            self._pipeline.queue(GiveBack(self.line_id))
+        return is_there
+
     def _gone(self) -> Over:
-        over = gone()
-        self._pipeline.missed(over)
-        return over
+        fault = gone(self.id)
+        self._pipeline.missed(fault)
+        return fault
 
     def _check(self) -> None:
         state = self._state
         if state is not _NEW and state is not _OPEN:
-            raise Over(_WHY[state])
+            raise over(_CAUSES[state], self.id)
 
     # What the calls of both kinds have in common.
 
@@ -132,11 +155,15 @@ class BaseTransaction:
             if self._state is not State.OPEN:
                 return
             self._state = State.EXPIRED
-            if self._pipeline.up and self._epoch == self._pipeline.epoch:
-                self._pipeline.open_ids.discard(self.line_id)
-                self._pipeline.queue(GiveBack(self.line_id))
-            elif self._first is not None:  # it may wait still: for a place, or for a site that stands
-                self._pipeline.fail(self._first, Over(_WHY[State.EXPIRED]))
+            if not self._give_back() and self._first is not None:
+                self._pipeline.unqueue(self._first)  # it may wait still: for a place, or for a site that stands
+                self._pipeline.fail(self._first, over(Cause.EXPIRED, self.id))
+        self._pipeline.flush()
+
+    def _leave(self) -> None:
+        """Ends it, where its end didn't go out in time: nobody waits for that."""
+        with self._pipeline.lock:
+            self.given_up()
         self._pipeline.flush()
 
     def _begun(self) -> str:
@@ -148,7 +175,7 @@ class BaseTransaction:
     def _found(self, outcome: Outcome) -> None:
         """What a stop left of a commit. Raises `Lost` where it wasn't committed, and there was something to commit."""
         if outcome is not Outcome.COMMITTED and self._granted:
-            lost = Lost(f"transaction {self.id}: the site stopped before it was committed")
+            lost = Lost("the site stopped before it was committed", self.id)
             self._pipeline.missed(lost)
             raise lost
 
@@ -157,68 +184,88 @@ class Transaction(BaseTransaction):
     """A transaction of a thread: committed on leaving the `with`, aborted on an exception.
 
     Ask one call of it at a time. Each call returns once the rights are set aside. A commit that raises nothing is kept,
-    across stops too.
+    across stops too. A `timeout` is in seconds, and without one a call has that of the transaction.
     """
 
-    def lower(self, field: str, amount: int) -> None:
+    def lower(self, field: str, amount: int, *, timeout: Optional[float] = None) -> None:
         """Sets rights aside to lower the field by so many quantities, 1 to 2 * 10^15. Raises as `change`."""
-        self.change(field, -amount_of(amount))
+        self._set_aside(field, -amount_of(amount), end_of(timeout, self._timeout))
 
-    def raise_(self, field: str, amount: int) -> None:
+    def raise_(self, field: str, amount: int, *, timeout: Optional[float] = None) -> None:
         """Sets rights aside to raise the field by so many quantities, 1 to 2 * 10^15. Raises as `change`."""
-        self.change(field, amount_of(amount))
+        self._set_aside(field, amount_of(amount), end_of(timeout, self._timeout))
 
-    def change(self, field: str, change: int) -> None:
+    def change(self, field: str, change: int, *, timeout: Optional[float] = None) -> None:
         """Sets rights aside to change the field by so many quantities: below 0 lowers it, above 0 raises it.
 
         Raises `Short` where the site has too few free rights, with how many it has; another `Refused`; `Over` where the
         transaction has ended, also by a stop of the site; `Down` where the site isn't served. The transaction stays
-        open after `Refused`.
+        open after `Refused`, and after `Busy`, where its time was up before it was asked. Where it was up before the
+        answer came that is `Unknown`, and the transaction has ended: what it set aside is given back.
         """
+        self._set_aside(field, change, end_of(timeout, self._timeout))
+
+    def _set_aside(self, field: str, change: int, end: float) -> None:
         try:
-            ask(self._pipeline, self._escrow(self._pipeline.known(field), change_of(change)))
+            ask(self._pipeline, self._escrow(self._pipeline.known(field), change_of(change)), end)
         except Interrupted:
             raise self._gone() from None
         self._granted += 1
 
-    def commit(self) -> None:
+    def commit(self, *, timeout: Optional[float] = None) -> None:
         """Makes the changes permanent.
 
         Raises `Lost` or `Over` where nothing was committed, and never will be; `Unknown` where a stop left the answer
-        out and the site doesn't stand again in time; `Down` where the site isn't served: nothing was committed.
+        out and the site doesn't stand again in time, or where the call's own time was up; `Down` where the site isn't
+        served, and `Busy` where its time was up before it was asked: nothing was committed.
         """
+        end = end_of(timeout, self._timeout)
+        self._is_told = True
         if self._unbegun():
             return
         try:
-            ask(self._pipeline, Commit(self))
+            ask(self._pipeline, Commit(self), end)
         except Interrupted:
-            self._found(kept(self._pipeline, self._begun()))
+            self._found(kept(self._pipeline, self._begun(), end))
+        except Busy:
+            self._is_told = False
+            raise
 
-    def abort(self) -> None:
+    def abort(self, *, timeout: Optional[float] = None) -> None:
         """Gives the rights back. Does nothing where the transaction has ended, as by a stop of the site. Raises
-        nothing."""
+        nothing: they come back where its time is up, too."""
+        self._abort(end_of(timeout, self._timeout))
+
+    def _abort(self, end: float) -> None:
+        self._is_told = True
         try:
             if not self._unbegun():
-                ask(self._pipeline, Abort(self))
-        except (Interrupted, Over, Down, Refused):
+                ask(self._pipeline, Abort(self), end)
+        except Busy:
+            self._leave()
+        except (Interrupted, Over, Down, Refused, Unknown):
             pass
 
-    def only(self, field: str, change: int, before: Before) -> bool:
-        """This change alone, with `before` called ahead of the commit: whether it was committed. It wasn't, and never
-        will be, where a stop of the site ended it. Raises what a change, `before` or a commit does, and ends it."""
+    def only(self, field: str, change: int, before: Before, end: float) -> bool:
+        """This change alone, with `before` called ahead of the commit: whether it was committed, by this end. It wasn't,
+        and never will be, where a stop of the site ended it. Raises what a change, `before` or a commit does, and ends
+        it."""
         try:
-            self.change(field, change)
+            self._set_aside(field, change, end)
             if inspect.isawaitable(before(self.id)):
                 raise TypeError("what before returns would have to be awaited: AsyncSite.change does that")
         except BaseException:
-            self.abort()
+            self._abort(end)
             raise
         try:
-            ask(self._pipeline, Commit(self))
+            ask(self._pipeline, Commit(self), end)
         except Interrupted:
-            return kept(self._pipeline, self.id) is Outcome.COMMITTED
+            return kept(self._pipeline, self.id, end) is Outcome.COMMITTED
         except Over:
             return False
+        except Busy:
+            self._abort(end)
+            raise
         return True
 
     def __enter__(self) -> Transaction:
@@ -227,68 +274,92 @@ class Transaction(BaseTransaction):
     def __exit__(
         self, kind: Optional[type[BaseException]], fault: Optional[BaseException], trace: Optional[TracebackType]
     ) -> None:
-        if kind is None:
-            self.commit()
-        else:
+        if kind is not None:
             self.abort()
+        elif not self._is_told:
+            try:
+                self.commit()
+            except Busy:
+                self.abort()
+                raise
 
 
 class AsyncTransaction(BaseTransaction):
     """A transaction of a task, for `async with`: as `Transaction`, awaited."""
 
-    def __init__(self, pipeline: Pipeline, clock: Errands, seconds: Optional[float], asks: Ask) -> None:
-        super().__init__(pipeline, clock, seconds)
+    def __init__(
+        self, pipeline: Pipeline, clock: Errands, seconds: Optional[float], asks: Ask,
+        timeout: Optional[float] = None, site: object = None,
+    ) -> None:
+        super().__init__(pipeline, clock, seconds, timeout, site)
         self._ask = asks
 
-    async def lower(self, field: str, amount: int) -> None:
+    async def lower(self, field: str, amount: int, *, timeout: Optional[float] = None) -> None:
         """As `Transaction.lower`."""
-        await self.change(field, -amount_of(amount))
+        await self._set_aside(field, -amount_of(amount), end_of(timeout, self._timeout))
 
-    async def raise_(self, field: str, amount: int) -> None:
+    async def raise_(self, field: str, amount: int, *, timeout: Optional[float] = None) -> None:
         """As `Transaction.raise_`."""
-        await self.change(field, amount_of(amount))
+        await self._set_aside(field, amount_of(amount), end_of(timeout, self._timeout))
 
-    async def change(self, field: str, change: int) -> None:
+    async def change(self, field: str, change: int, *, timeout: Optional[float] = None) -> None:
         """As `Transaction.change`."""
+        await self._set_aside(field, change, end_of(timeout, self._timeout))
+
+    async def _set_aside(self, field: str, change: int, end: float) -> None:
         try:
-            await self._ask(self._escrow(self._pipeline.known(field), change_of(change)))
+            await self._ask(self._escrow(self._pipeline.known(field), change_of(change)), end)
         except Interrupted:
             raise self._gone() from None
         self._granted += 1
 
-    async def commit(self) -> None:
+    async def commit(self, *, timeout: Optional[float] = None) -> None:
         """As `Transaction.commit`."""
+        end = end_of(timeout, self._timeout)
+        self._is_told = True
         if self._unbegun():
             return
         try:
-            await self._ask(Commit(self))
+            await self._ask(Commit(self), end)
         except Interrupted:
-            self._found(await async_kept(self._pipeline, self._ask, self._begun()))
+            self._found(await async_kept(self._pipeline, self._ask, self._begun(), end))
+        except Busy:
+            self._is_told = False
+            raise
 
-    async def abort(self) -> None:
+    async def abort(self, *, timeout: Optional[float] = None) -> None:
         """As `Transaction.abort`."""
+        await self._abort(end_of(timeout, self._timeout))
+
+    async def _abort(self, end: float) -> None:
+        self._is_told = True
         try:
             if not self._unbegun():
-                await self._ask(Abort(self))
-        except (Interrupted, Over, Down, Refused):
+                await self._ask(Abort(self), end)
+        except Busy:
+            self._leave()
+        except (Interrupted, Over, Down, Refused, Unknown):
             pass
 
-    async def only(self, field: str, change: int, before: Before) -> bool:
+    async def only(self, field: str, change: int, before: Before, end: float) -> bool:
         """As `Transaction.only`; what `before` returns is awaited where it can be."""
         try:
-            await self.change(field, change)
+            await self._set_aside(field, change, end)
             told = before(self.id)
             if inspect.isawaitable(told):
                 await told
         except BaseException:
-            await self.abort()
+            await self._abort(end)
             raise
         try:
-            await self._ask(Commit(self))
+            await self._ask(Commit(self), end)
         except Interrupted:
-            return await async_kept(self._pipeline, self._ask, self.id) is Outcome.COMMITTED
+            return await async_kept(self._pipeline, self._ask, self.id, end) is Outcome.COMMITTED
         except Over:
             return False
+        except Busy:
+            await self._abort(end)
+            raise
         return True
 
     async def __aenter__(self) -> AsyncTransaction:
@@ -297,7 +368,11 @@ class AsyncTransaction(BaseTransaction):
     async def __aexit__(
         self, kind: Optional[type[BaseException]], fault: Optional[BaseException], trace: Optional[TracebackType]
     ) -> None:
-        if kind is None:
-            await self.commit()
-        else:
+        if kind is not None:
             await self.abort()
+        elif not self._is_told:
+            try:
+                await self.commit()
+            except Busy:
+                await self.abort()
+                raise

@@ -35,7 +35,7 @@ class ThreadWaiter:
 
     def comes(self, seconds: float) -> bool:
         """Whether the answer comes within so many seconds: then `wait` has it at once."""
-        if not self._come.acquire(timeout=max(0.0, seconds)):
+        if not self._come.acquire(timeout=min(max(0.0, seconds), threading.TIMEOUT_MAX)):
             return False
         self._come.release()
         return True
@@ -76,13 +76,15 @@ class Awaited:
         desk.gathered.append(self)
 
     def cancel(self, msg: Optional[Any] = None) -> bool:
-        """The task is cancelled: it doesn't wait any more. False where it doesn't wait."""
-        wake, loop = self.wake, self.waiter.loop  # type: ignore[union-attr]
+        """The task is cancelled: it doesn't wait any more, and what wasn't asked yet isn't. False where it doesn't wait."""
+        wake, desk = self.wake, self.waiter
         if wake is None:
             return False
-        self.wake, cancelled = None, loop.create_future()
+        assert desk is not None and not isinstance(desk, ThreadWaiter)
+        self.wake, cancelled = None, desk.loop.create_future()
+        desk.forget(self)
         cancelled.cancel(msg)
-        loop.call_soon(wake, cancelled, context=self.context)
+        desk.loop.call_soon(wake, cancelled, context=self.context)
         return True
 
 
@@ -108,6 +110,9 @@ class TaskWaiter(Protocol):
 
     def wake(self, calls: Sequence[Awaited]) -> None:
         """Wakes the tasks of these calls. Called in the loop."""
+
+    def forget(self, call: Any) -> None:
+        """Nobody waits for this call: it isn't asked, where it wasn't yet. Called in the loop."""
 
 
 Waiter = Union[ThreadWaiter, TaskWaiter]

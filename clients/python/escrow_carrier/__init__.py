@@ -11,6 +11,8 @@ once. Who can write to the topics of another site can: docs/OPERATING.md tells w
 needs paho-mqtt."""
 from typing import TYPE_CHECKING, Any
 
+from escrow import __version__
+
 from .carrier import AsyncCarrier, Carrier, last_mark
 from .counts import Counts
 from .folder import Folder
@@ -22,7 +24,7 @@ if TYPE_CHECKING:
     from .mqtt import Mqtt
 
 __all__ = ["Ask", "AsyncCarrier", "Carrier", "Counts", "Folder", "Garbage", "Gift", "Marked", "Medium", "Message",
-           "Mqtt", "Policy", "Shares", "Topics", "last_mark"]
+           "Mqtt", "Policy", "Shares", "Topics", "__version__", "last_mark"]
 
 
 def __getattr__(name: str) -> Any:

@@ -3,8 +3,8 @@ else. Site 3 logs in as `site3`.
 
     python3 -m escrow_carrier shop0 shop1 shop2 > access
 
-Ends with status 2 where no folder is named, and with 3 where one isn't a site's; then it prints one line, on standard
-error, and no list."""
+Ends with status 2 where no folder is named, or a flag that it hasn't got, and with 3 where one isn't a site's; then it prints
+one line, on standard error, and no list. A folder whose name begins with `-` is given as `./-..`."""
 import sys
 
 from escrow import EscrowError
@@ -15,6 +15,13 @@ from .messages import Topics
 
 def main(folders: list[str]) -> int:
     """An entry for each folder. The status."""
+    if folders and folders[0] in ("-h", "--help"):
+        print(__doc__)
+        return 0
+    for word in folders:
+        if word.startswith("-"):
+            print(f"escrow_carrier: {word} is no flag, and a folder of that name is ./{word}", file=sys.stderr)
+            return 2
     if not folders:
         print("escrow_carrier: name the folders of the sites: python3 -m escrow_carrier FOLDER..", file=sys.stderr)
         return 2

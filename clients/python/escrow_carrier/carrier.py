@@ -12,6 +12,8 @@ from enum import Enum, auto
 from typing import Callable, Optional, Sequence, Union
 
 from escrow import AsyncSite, Forged, Kind, Mark, NothingGiven, Refused, Short, Site, Statement
+from escrow.asking import end_of
+from escrow.desk import NEVER
 from escrow.metrics import Metrics
 from escrow.schema import identity
 
@@ -72,8 +74,9 @@ class Carrier:
     until it comes: `found_mark`. One that comes later, as where a broker was away, closes the site then: `last_fault`
     tells why, and so does each call of the site.
 
-    Any thread may call `change` and `fetch`; they wait for at most `policy.asks` times `policy.patience`, and as
-    long as the site is down. `AsyncCarrier` is for tasks. What it counts stands in `counts`, and in `metrics` too
+    Any thread may call `change` and `fetch`; they wait for at most `policy.asks` times `policy.patience`, or the
+    `patience` of a medium that needs more, as `Folder` does, and as long as the site is down; a `timeout` in seconds
+    ends that. `AsyncCarrier` is for tasks. What it counts stands in `counts`, and in `metrics` too
     where the site's are given: `escrow_carrier_forged_total` and so on, and `escrow_carrier_connected`."""
 
     def __init__(self, site: Site, medium: Medium, policy: Policy = Policy(), refresh: float = 10.0,
@@ -101,7 +104,7 @@ class Carrier:
         self._changed = threading.Condition()           # guards what follows
         self._reports: dict[int, Report] = {}
         self._gains = dict.fromkeys(self._places, 0)
-        self._failed = dict.fromkeys(self._places, -self.policy.patience)
+        self._failed = dict.fromkeys(self._places, -self._patience)
         self._fetching = {place: threading.Lock() for place in self._places}
         self._worker = threading.Thread(target=self._work, name=f"carrier {site.number}", daemon=True)
         if metrics is not None:
@@ -135,34 +138,50 @@ class Carrier:
                     "%s: no mark of this site came from its medium: an older copy of its log isn't seen, unless one "
                     "comes later", self.site.folder)
 
+    @property
+    def _patience(self) -> float:
+        """Seconds in which an asked site has to answer."""
+        return max(self.policy.patience, getattr(self.medium, "patience", 0.0))
+
     # ---- for who sells
 
-    def change(self, field: str, change: int) -> str:
+    def change(self, field: str, change: int, *, timeout: Optional[float] = None) -> str:
         """`Site.change`, with rights of other sites where its own are short. Raises what that raises: `Short` where the
-        others had too few, or couldn't be reached."""
+        others had too few, couldn't be reached, or not in time."""
+        end = end_of(timeout, self.site.timeout)
         while True:                                     # somebody else here may take what was fetched
             try:
-                return self.site.change(field, change)
+                return self.site.change(field, change, timeout=end - time.monotonic())
             except Short:
-                if not self.fetch(field, _needed(change), abs(change)):
+                if not self.fetch(field, _needed(change), abs(change), timeout=end - time.monotonic()):
                     raise
 
-    def fetch(self, field: str, kind: Kind, amount: int) -> bool:
-        """Gets rights from other sites, until this one has so many of the kind free. False where they don't come; at
-        once, with nobody asked, where all that others told of is too little. One thread at a time asks about a kind of
-        a field: the next finds what it got. Raises KeyError where the world has no such field, and `Down`."""
-        place = field, kind
-        with self._fetching[place]:
-            if self._has(place, amount):
-                return True
-            if not self.medium.is_connected or time.monotonic() - self._failed[place] < self.policy.patience:
-                return False                            # somebody else has just asked them all
-            if self._is_beyond(place, amount):
-                return False
-            if self._ask_others(place, amount):
-                return True
-            self._failed[place] = time.monotonic()
+    def fetch(self, field: str, kind: Kind, amount: int, *, timeout: Optional[float] = None) -> bool:
+        """Gets rights from other sites, until this one has so many of the kind free. False where they don't come, or not
+        in time; at once, with nobody asked, where all that others told of is too little. One thread at a time asks about
+        a kind of a field: the next finds what it got. Raises KeyError where the world has no such field, `Down`, and
+        `Busy` where the site itself doesn't tell in time what it has."""
+        place, end = (field, kind), end_of(timeout, self.site.timeout)
+        fetching = self._fetching[place]
+        if not fetching.acquire(timeout=max(0.0, min(end - time.monotonic(), threading.TIMEOUT_MAX))):
             return False
+        try:
+            return self._fetch(place, amount, end)
+        finally:
+            fetching.release()
+
+    def _fetch(self, place: Place, amount: int, end: float) -> bool:
+        if self._has(place, amount, end):
+            return True
+        if not self.medium.is_connected or time.monotonic() - self._failed[place] < self._patience:
+            return False                                # somebody else has just asked them all
+        if self._is_beyond(place, amount, end):
+            return False
+        if self._ask_others(place, amount, end):
+            return True
+        if time.monotonic() < end:
+            self._failed[place] = time.monotonic()
+        return False
 
     def known(self, field: str, kind: Kind) -> dict[int, Optional[int]]:
         """How many rights of a kind each other site had free, as it told last, at most three `refresh` ago; None
@@ -192,33 +211,36 @@ class Carrier:
 
     # ---- when short
 
-    def _has(self, place: Place, amount: int) -> bool:
-        return self.site.share(place[0]).of(place[1]) >= amount
+    def _has(self, place: Place, amount: int, end: float) -> bool:
+        return self._share(place, end) >= amount
 
-    def _ask_others(self, place: Place, amount: int) -> bool:
+    def _share(self, place: Place, end: float) -> int:
+        return self.site.share(place[0], timeout=end - time.monotonic()).of(place[1])
+
+    def _ask_others(self, place: Place, amount: int, end: float) -> bool:
         asked: set[int] = set()                         # in vain, since rights came last
         for _ in range(self.policy.asks):
             with self._changed:
                 giver = self.policy.giver(self._known(place, AWAY), asked)
-            if giver is None:
+            if giver is None or time.monotonic() >= end:
                 return False
-            if not self._ask(giver, place, amount):
+            if not self._ask(giver, place, amount, end):
                 asked.add(giver)
-            elif self._has(place, amount):
+            elif self._has(place, amount, end):
                 return True
             else:
                 asked.clear()
-            if self._is_beyond(place, amount):
+            if self._is_beyond(place, amount, end):
                 return False
         return False
 
-    def _is_beyond(self, place: Place, amount: int) -> bool:
+    def _is_beyond(self, place: Place, amount: int, end: float) -> bool:
         """Whether this site and all that can be asked have less, as they told last. Not where one has told nothing
         yet."""
         with self._changed:
             known = list(self._known(place, AWAY).values())
         shares = [it for it in known if it is not None]     # and then the own: what moves between counts twice
-        return len(shares) == len(known) and sum(shares) + self.site.share(place[0]).of(place[1]) < amount
+        return len(shares) == len(known) and sum(shares) + self._share(place, end) < amount
 
     def _known(self, place: Place, looks: float) -> dict[int, Optional[int]]:
         since = time.monotonic() - looks * self.refresh
@@ -226,7 +248,7 @@ class Carrier:
         return {site: None if report is None else report.shares.of(*place) for site, report in reports
                 if report is None or report.at > since}
 
-    def _ask(self, giver: int, place: Place, amount: int) -> bool:
+    def _ask(self, giver: int, place: Place, amount: int, end: float) -> bool:
         """Whether rights of that kind came from anywhere, in the time that the asked site has."""
         with self._changed:
             gains, report = self._gains[place], self._reports.get(giver)
@@ -238,7 +260,7 @@ class Carrier:
                 told = self._reports.get(giver)
                 has_none = told is not report and told is not None and told.shares.of(*place) == 0
                 return self._gains[place] != gains or has_none
-            self._changed.wait_for(is_answered, self.policy.patience)
+            self._changed.wait_for(is_answered, min(self._patience, end - time.monotonic()))
             return self._gains[place] != gains
 
     # ---- what comes: the threads of the site and of the medium only note it
@@ -326,7 +348,7 @@ class Carrier:
         elif isinstance(message, Statement) and message.to == self.site.number and message.giver != self.site.number:
             self._accept(message, heard.at)
         elif isinstance(message, Ask) and message.giver == self.site.number and message.asker != self.site.number:
-            if time.monotonic() - heard.at < self.policy.patience:
+            if time.monotonic() - heard.at < self._patience:
                 self._spare(message)
 
     def _note(self, shares: Shares, at: float) -> None:
@@ -482,18 +504,21 @@ class AsyncCarrier:
     def __init__(self, carrier: Carrier, site: AsyncSite) -> None:
         self._carrier, self._site = carrier, site
 
-    async def change(self, field: str, change: int) -> str:
+    async def change(self, field: str, change: int, *, timeout: Optional[float] = None) -> str:
         """As `Carrier.change`."""
+        end = end_of(timeout, self._site.timeout)
         while True:
+            left = None if end == NEVER else end - time.monotonic()
             try:
-                return await self._site.change(field, change)
+                return await self._site.change(field, change, timeout=left)
             except Short:
-                if not await self.fetch(field, _needed(change), abs(change)):
+                if not await self.fetch(field, _needed(change), abs(change), timeout=left):
                     raise
 
-    async def fetch(self, field: str, kind: Kind, amount: int) -> bool:
+    async def fetch(self, field: str, kind: Kind, amount: int, *, timeout: Optional[float] = None) -> bool:
         """As `Carrier.fetch`."""
-        return await asyncio.to_thread(self._carrier.fetch, field, kind, amount)
+        limit = self._site.timeout if timeout is None else timeout
+        return await asyncio.to_thread(self._carrier.fetch, field, kind, amount, timeout=limit)
 
 
 def _needed(change: int) -> Kind:

@@ -37,12 +37,14 @@ def count_in(metrics: Metrics, counts: Counts, medium: Medium, givers: Sequence[
     """Adds each count to a site's numbers, as `escrow_carrier_heard_total`, and `escrow_carrier_connected`. That of
     forged statements names the giver and the field, each from the beginning on."""
 
-    def forged() -> list[Sample]:
+    def forged() -> float | list[Sample]:
         return [Sample("", (("giver", str(giver)), ("field", field)), counts.forged_by[giver, field])
                 for giver in givers for field in fields]
 
     def counted(name: str) -> Callable[[], float | list[Sample]]:
-        return forged if name == "forged" else lambda: float(getattr(counts, name))
+        def value() -> float | list[Sample]:
+            return float(getattr(counts, name))
+        return forged if name == "forged" else value
     for it in dataclasses.fields(Counts):
         if it.metadata:
             metrics.also(f"escrow_carrier_{it.name}_total", it.metadata["told"], Type.COUNTER, counted(it.name))

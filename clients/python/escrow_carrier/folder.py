@@ -11,14 +11,15 @@ from .medium import Hear
 
 
 class Folder:
-    """A file for each topic, looked at every `pause` seconds. Give its carriers a policy whose `patience` is some
-    four pauses, and the time that rsync takes. By rsync each machine copies what its own site tells,
+    """A file for each topic, looked at every `pause` seconds. Its carriers wait four pauses at least for what they ask: where
+    rsync takes its time, give them a policy whose `patience` is longer. By rsync each machine copies what its own site tells,
     `escrow/WORLD/N`, to the others, and nothing else: a copy of theirs would put old messages back."""
 
     is_connected = kept_comes_first = True
 
     def __init__(self, path: str, pause: float = 0.5) -> None:
         self._path, self._pause, self._closed = path, pause, threading.Event()
+        self.patience = 4 * pause
         self._seen: dict[str, tuple[int, int]] = {}
 
     def open(self, name: str, filters: Sequence[str], hear: Hear, opened: Callable[[], None]) -> None:

@@ -21,7 +21,8 @@ class Policy:
     bound holds.
 
     - `ahead`: so many times what is wanted is asked for, so that the next ones find it.
-    - `patience`: seconds in which an asked site has to answer; then the next one is asked.
+    - `patience`: seconds in which an asked site has to answer; then the next one is asked. A medium that needs more,
+      as `Folder` does, has its own.
     - `asks`: at most so many questions for one want.
     - `quiet`: seconds without a question or a gift about a kind of a field, after which its rights are evened out.
     - `slack`: they stay as they are while each share is within this part of the even one.

@@ -9,6 +9,8 @@ It has the calls of `escrow.Site`, which asks a program by a pipe, and its value
 `libescrow_c.so`, where `$ESCROW_LIBRARY` says, or as `.ci/embed` links it in crates/escrow_c/out.
 """
 
+from escrow import __version__
+
 from .site import Fault, Site, Transaction
 
-__all__ = ["Fault", "Site", "Transaction"]
+__all__ = ["Fault", "Site", "Transaction", "__version__"]

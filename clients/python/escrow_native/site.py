@@ -157,7 +157,8 @@ class Site:
     def _refusal(self, ask: Ask, answer: Answer, field: str) -> EscrowError:
         number = Refusal(answer.code)
         if number is Refusal.NO_TRANSACTION:
-            return Over(f"transaction {ask.epoch}.{ask.number} has ended")
+            id = f"{ask.epoch}.{ask.number}"
+            return Over(f"transaction {id} has ended", id)
         told = answer.first if number in _TELLING else None
         return _CLASSES.get(number, Refused)(number, told, self._asked(ask, field))
 

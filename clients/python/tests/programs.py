@@ -43,13 +43,13 @@ def short_name(schema: escrow.Schema, name: str = WORLD) -> str:
 
 
 def of_shop(id: str) -> str:
-    """The id of a transaction that lines name so, in a test's world of the schema `SHOP`."""
-    return f"{short_name(SHOP)}-{id}"
+    """The id of a transaction that lines of site 0 name so, in a test's world of the schema `SHOP`."""
+    return f"{short_name(SHOP)}-0-{id}"
 
 
 def of_large(id: str) -> str:
     """The same, of the schema `LARGE`."""
-    return f"{short_name(LARGE)}-{id}"
+    return f"{short_name(LARGE)}-0-{id}"
 
 
 @functools.cache
@@ -157,7 +157,7 @@ def records(folder: str) -> list[list[str]]:
 
 
 def log_of(folder: str) -> tuple[str, list[list[str]]]:
-    """The name of a log's world, and the words of its records: in version 2 of those that a sum closes."""
+    """What stands in front of the ids of a log, and the words of its records: in version 2 of those that a sum closes."""
     with open(os.path.join(folder, "log"), encoding="ascii") as file:
         version, number, world, *lines = file.read().split("\n")[:-1]
     assert version in ("escrow log 1", "escrow log 2") and number.startswith("number "), version
@@ -165,17 +165,18 @@ def log_of(folder: str) -> tuple[str, list[list[str]]]:
         assert [line.split(" ")[0] for line in lines[:2]] == ["head", "sum"], lines[:2]
         last = max(at for at, line in enumerate(lines) if line.startswith("sum "))
         lines = [line for line in lines[2 : last + 1] if not line.startswith("sum ")]
-    return world.removeprefix("world "), [line.split(" ") for line in lines]
+    front = f"{world.removeprefix('world ')[:8]}-{number.removeprefix('number ')}-"
+    return front, [line.split(" ") for line in lines]
 
 
 def commits(folder: str, schema: escrow.Schema) -> dict[str, Changes]:
     """The changes of each commit of a log, by id. Fails where one stands twice."""
     found: dict[str, Changes] = {}
-    world, kept = log_of(folder)
+    front, kept = log_of(folder)
     for words in kept:
         if words[0] != "C":
             continue
-        id = f"{world[:8]}-{words[1]}.{words[2]}"
+        id = f"{front}{words[1]}.{words[2]}"
         assert id not in found, f"{id} is committed twice"
         pairs = zip(words[3::2], words[4::2])
         found[id] = tuple((schema.fields[int(field)].name, int(change)) for field, change in pairs)

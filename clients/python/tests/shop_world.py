@@ -156,11 +156,11 @@ class Log(NamedTuple):
 
 def log_of(folder: str, fields: list[str]) -> Log:
     """Reads the commits of a log, by docs/FORMATS.md. Raises ValueError where one id stands there twice."""
-    world, records = programs.log_of(folder)
+    front, records = programs.log_of(folder)
     commits: dict[str, Changes] = {}
     for words in records:
         if words[0] == "C":
-            name = f"{world[:8]}-{words[1]}.{words[2]}"
+            name = f"{front}{words[1]}.{words[2]}"
             if name in commits:
                 raise ValueError(f"{folder}: {name} is committed twice")
             commits[name] = tuple((fields[int(words[at])], int(words[at + 1])) for at in range(3, len(words), 2))

@@ -78,6 +78,7 @@ escrow_refusals_total{site="2",command="give",number="9",reason="ledger full"} 0
 escrow_refusals_total{site="2",command="spare",number="9",reason="ledger full"} 0
 # HELP escrow_missed_total Calls that ended without an answer, by outcome.
 # TYPE escrow_missed_total counter
+escrow_missed_total{site="2",outcome="busy"} 0
 escrow_missed_total{site="2",outcome="down"} 0
 escrow_missed_total{site="2",outcome="lost"} 1
 escrow_missed_total{site="2",outcome="over"} 0

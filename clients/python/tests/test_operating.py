@@ -85,7 +85,7 @@ class VersionTest(SiteTest):
         with escrow.Site(self.written(VERSION_1), program=escrow_site(), trace=True, last_id="145aa840-1.1") as site:
             self.assertEqual((site.mark, site.newest_mark()), (Mark(2, 87), Mark(2, 87)))
             id = site.change("stock", -1)               # `C 2 1 0 -1`, of 11 bytes with its line feed
-            self.assertEqual((id, site.newest_mark()), ("145aa840-2.1", Mark(2, 98)))
+            self.assertEqual((id, site.newest_mark()), ("145aa840-0-2.1", Mark(2, 98)))
             self.assertEqual({site.outcome(it) for it in ("1.1", "145aa840-1.1", id)}, {Outcome.COMMITTED})
             kill(site)
             self.assertEqual((site.share("stock"), site.newest_mark()), (Share(13, 28), Mark(3, 102)))

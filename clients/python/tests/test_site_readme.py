@@ -1,4 +1,4 @@
-"""The first sale of the page README.md does what stands there."""
+"""The examples of the page README.md do what stands there: a first sale, and carts."""
 
 from __future__ import annotations
 
@@ -8,6 +8,7 @@ import sys
 import unittest
 
 from programs import PACKAGES, SiteTest, escrow_site
+import escrow
 
 
 def blocks() -> list[str]:
@@ -20,12 +21,21 @@ def blocks() -> list[str]:
 class ReadmeTest(SiteTest):
     """What is typed, and what it prints."""
 
-    def test_a_first_sale(self) -> None:
-        typed, printed = blocks()
-        typed = typed.replace("PYTHONPATH=clients/python python3 ", f'PYTHONPATH="{PACKAGES}" "{sys.executable}" ')
+    def test_each_example(self) -> None:
+        typed, found = blocks()[::2], blocks()[1::2]
+        self.assertEqual(len(typed), 2)
         environment = {**os.environ, "ESCROW_SITE": escrow_site()}
-        told = subprocess.run(["sh", "-c", typed], cwd=self.place, env=environment, capture_output=True, text=True, check=False)
-        self.assertEqual((told.stdout, told.stderr), (printed, ""))
+        for text, printed in zip(typed, found):
+            text = text.replace("PYTHONPATH=clients/python python3 ", f'PYTHONPATH="{PACKAGES}" "{sys.executable}" ')
+            told = subprocess.run(["sh", "-c", text], cwd=self.place, env=environment, capture_output=True, text=True, check=False)
+            self.assertEqual((told.stdout, told.stderr), (printed, ""))
+
+    def test_each_exception_has_a_row(self) -> None:
+        with open(os.path.join(PACKAGES, "README.md"), encoding="utf-8") as file:
+            rows = file.read().partition("## What is raised")[2].partition("\n## ")[0]
+        for name, it in vars(escrow).items():
+            if isinstance(it, type) and issubclass(it, escrow.EscrowError) and it is not escrow.EscrowError:
+                self.assertRegex(rows, rf"(?m)^\|[^|]*`{name}`", name)
 
 
 if __name__ == "__main__":

@@ -51,7 +51,7 @@ class OtherWorldTest(SiteTest):
         t.lower("seats", 1)
         t.abort()
         site.change("seats", -1, before=lambda _: None)
-        self.assertEqual(site.change("seats", -1), f"{short_name(schema, 'concert-18')}-1.3")
+        self.assertEqual(site.change("seats", -1), f"{short_name(schema, 'concert-18')}-0-1.3")
         return Settled(old, committed, aborted, site)
 
     def told(self, world: Settled, ask: Callable[[str], object], id: str) -> str:
@@ -70,7 +70,7 @@ class OtherWorldTest(SiteTest):
         shop = escrow.AsyncSite(world.site)
         asks: list[Callable[[str], object]] = [world.site.outcome, lambda id: asyncio.run(self.outcome(shop, id))]
         front = short_name(HALL, "concert-17")
-        self.assertEqual([*world.committed, world.aborted], [f"{front}-1.{number}" for number in (1, 2, 3)])
+        self.assertEqual([*world.committed, world.aborted], [f"{front}-0-1.{number}" for number in (1, 2, 3)])
         for ask in asks:
             for id in (*world.committed, world.aborted, f"{front}-9.9"):
                 told = self.told(world, ask, id)

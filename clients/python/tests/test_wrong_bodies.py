@@ -1,10 +1,11 @@
 """Wrong bodies of the client and the carrier: each file of `wrong` names a mistake that somebody could make, and the
-test that sees it. Each is made in a copy of the packages, where that test has to fail; unmade, it has to pass.
+test that sees it. Each is made in a copy of the packages, where that test has to fail; unmade, all of them have to pass.
 
 A file has a line `file:` (of the packages), pairs of lines `old:` and `new:`, each `old` exactly once in the file, and a
 line `test:`."""
 from __future__ import annotations
 
+import concurrent.futures
 import glob
 import os
 import shutil
@@ -17,6 +18,7 @@ from typing import NamedTuple
 from programs import PACKAGES, TOP
 
 WRONG = os.path.join(PACKAGES, "tests", "wrong")
+AT_ONCE = 3
 
 
 class Edit(NamedTuple):
@@ -65,10 +67,24 @@ def copy_packages(top: str) -> str:
     return packages
 
 
-def passes(packages: str, test: str) -> bool:
-    words = [sys.executable, "-m", "unittest", "-q", test]
-    ran = subprocess.run(words, cwd=os.path.join(packages, "tests"), capture_output=True, timeout=120, check=False)
+def passes(packages: str, *tests: str) -> bool:
+    words = [sys.executable, "-m", "unittest", "-q", *tests]
+    ran = subprocess.run(words, cwd=os.path.join(packages, "tests"), capture_output=True, timeout=150, check=False)
     return ran.returncode == 0
+
+
+def pass_unmade(edits: list[Edit]) -> bool:
+    """Whether the tests of all these pass without any mistake."""
+    with tempfile.TemporaryDirectory() as top:
+        return passes(copy_packages(top), *sorted({edit.test for edit in edits}))
+
+
+def is_seen(edit: Edit) -> bool:
+    """Whether its test fails where this mistake is made."""
+    with tempfile.TemporaryDirectory() as top:
+        packages = copy_packages(top)
+        make_mistake(packages, edit)
+        return not passes(packages, edit.test)
 
 
 class WrongBodiesTest(unittest.TestCase):
@@ -77,12 +93,13 @@ class WrongBodiesTest(unittest.TestCase):
     def test_each_is_seen(self) -> None:
         paths = sorted(glob.glob(os.path.join(WRONG, "*.edit")))
         self.assertTrue(paths)
-        for path in paths:
-            with self.subTest(os.path.basename(path)), tempfile.TemporaryDirectory() as top:
-                edit, packages = read_edit(path), copy_packages(top)
-                self.assertTrue(passes(packages, edit.test), "the test fails without the mistake")
-                make_mistake(packages, edit)
-                self.assertFalse(passes(packages, edit.test), "the mistake isn't seen")
+        edits = [read_edit(path) for path in paths]
+        with concurrent.futures.ThreadPoolExecutor(AT_ONCE) as pool:
+            unmade, seen = pool.submit(pass_unmade, edits), [pool.submit(is_seen, edit) for edit in edits]
+            self.assertTrue(unmade.result(), "a test fails without the mistake")
+            for path, it in zip(paths, seen):
+                with self.subTest(os.path.basename(path)):
+                    self.assertTrue(it.result(), "the mistake isn't seen")
 
 
 if __name__ == "__main__":
