@@ -8,7 +8,7 @@ import os
 import shutil
 import subprocess
 
-from gate_programs import Fault
+from gate_programs import Fault, built
 from site_model import END, World, sealed
 from site_program import ALONE, COMMIT, FIRST, SHOP, SOLD, Program, Site, files_of
 
@@ -86,7 +86,12 @@ LOGS = (
     ((b"R 1\n", b"C 1 1 0 -20\nC 1 2 0 -1\n"), 3),
     ((b"R 1\nG 0 0 l 5\n",), 2),
     ((b"R 1\n", b"C 1 1 1 -1\n"), 2),
+    ((b"R 1\nR 1\n", b"HELLO\nR 2\n"), 2),
+    ((b"R 1\n", b"HELLO\nR 2\n", b"R 1\n"), 2),
+    ((b"R 1\n", b"C 1 1 0 -20\nC 1 2 0 -21\n", b"R 2\nHELLO\n"), 3),
 )
+# What stops leave behind a log.
+TORN_ENDS = (b"C 1 2 0 -1\nG", b"R 2\nsum 000000")
 
 # What stands behind the head of a log that no stop leaves so, each with the line where the batch begins that is damaged.
 RESTARTED = sealed(b"R 1\n")
@@ -124,6 +129,8 @@ COMMAND_LINES: tuple[tuple[list[str], str], ...] = (
     (["settle"], "FOLDER"),
     (["weave"], "FOLDER"),
     (["weave", "shop", "--trace"], "--trace"),
+    (["judge"], "FOLDER"),
+    (["judge", "shop", "--trace"], "--trace"),
     (["version", "shop"], "shop"),
 )
 
@@ -202,7 +209,7 @@ def tell_worlds_apart(program: Program) -> None:
             raise Fault(f"{site.folder}: the log is {files_of(site.folder)['log']!r}")
     for one, other in zip(sites, sites[1:] + sites[:1]):
         told = f"{other.folder}: isn't of the world of {one.folder}: name the folders of one world"
-        for word in ("check", "settle", "weave"):
+        for word in ("check", "settle", "weave", "judge"):
             program.ends([word, one.folder, other.folder], 2, "", told)
     os.replace(f"{sites[0].folder}/log", f"{sites[1].folder}/log")
     refuses(program, sites[1], ["serve"], 3, f"{sites[1].folder}/log: {OTHERS}")
@@ -235,6 +242,20 @@ def refuse_logs(program: Program) -> None:
     os.remove(log)
     for word in ("serve", "show"):
         refuses(program, site, [word], 3, f"{log}: {GONE}")
+
+
+def keep_closed_batches(program: Program) -> None:
+    """A log that is refused for a record keeps each batch that a sum closes; where it is only shown, also what a stop left."""
+    site = program.created("torn_logs")
+    for batches, line in LOGS:
+        told = f"{site.folder}/log: {NO_RECORD.format(line)}"
+        closed = SHOP.log_text(0, *batches)
+        for torn in TORN_ENDS:
+            program.put("torn_logs/log", closed + torn)
+            refuses(program, site, ["show"], 3, told)
+            program.ends(["serve", site.folder], 3, "", told, COMMIT)
+            if files_of(site.folder)["log"] != closed:
+                raise Fault(f"{site.folder}: refused, and lost more than a torn end: {told}")
 
 
 def refuse_exchanged(program: Program) -> None:
@@ -278,7 +299,7 @@ TRACES = (
 def refuse_traces(program: Program) -> None:
     site = program.created("untraced", ALONE)
     program.ends(["serve", site.folder], 0, FIRST.format(1, 4, 1) + SOLD, "", COMMIT)
-    for words in (["serve", "--trace"], ["weave"]):
+    for words in (["serve", "--trace"], ["weave"], ["judge"]):
         refuses(program, site, words, 3, f"{site.folder}/trace: {NO_TRACE}")
     site = program.created("traced", ALONE)
     trace, name = f"{site.folder}/trace", ALONE.trace_name(0).decode()
@@ -289,8 +310,18 @@ def refuse_traces(program: Program) -> None:
     told += [(other + OPENED + SOLD, NOT_ITS_TRACE) for other in names]
     for text, why in told:
         program.file("traced/trace", text)
-        for words in (["serve", "--trace"], ["weave"]):
+        for words in (["serve", "--trace"], ["weave"], ["judge"]):
             refuses(program, site, words, 3, f"{trace}: {why}")
+
+
+def refuse_traced_logs(program: Program) -> None:
+    """A log with two faults beside a trace: each command names the first."""
+    site = program.created("traced_faults", ALONE)
+    program.ends(["serve", site.folder, "--trace"], 0, FIRST.format(1, 4, 1) + SOLD, "", COMMIT)
+    for batches, line in LOGS[-3:]:
+        program.put("traced_faults/log", ALONE.log_text(0, *batches))
+        for words in (["serve", "--trace"], ["weave"], ["judge"], ["check"], ["settle"], ["show"]):
+            refuses(program, site, words, 3, f"{site.folder}/log: {NO_RECORD.format(line)}")
 
 
 def cut_traces(program: Program) -> None:
@@ -305,6 +336,7 @@ def cut_traces(program: Program) -> None:
     opened = "0 begin -> begun 1.2\n0 escrow 1.2 stock -5 -> granted\n"
     program.file("ahead/trace", f"{kept}{opened}0 commit 1.2 -> committed\n0 begin -> begun 1.3\n0 beg")
     program.ends(["weave", site.folder], 0, f"{ALONE.header()}\n{OPENED}{SOLD}{opened}", "")
+    program.ends(["judge", site.folder], 0, "legal 6\n", "")
     program.ends(["serve", site.folder, "--trace"], 0, FIRST.format(2, 20, 2), "", b"")
     again = OPENED.replace("1", "2")
     if files_of(site.folder)["trace"].decode() != kept + opened + again:
@@ -317,7 +349,7 @@ def refuse_folder_lists(program: Program) -> None:
     first, second = (program.created(f"of_world{number}", SHOP, number).folder for number in (0, 1))
     twin = program.created("twin").folder
     other = program.created("of_another", World(3, SHOP.fields)).folder
-    for word in ("check", "settle", "weave"):
+    for word in ("check", "settle", "weave", "judge"):
         told = f"{other}: isn't of the world of {first}: name the folders of one world"
         program.ends([word, first, second, other], 2, "", told)
         told = f"{twin}: is of site 0, as {first} is: name one folder for each site"
@@ -326,7 +358,7 @@ def refuse_folder_lists(program: Program) -> None:
         told = f"{nowhere}/site: isn't there: a site's folder is made by create"
         program.ends([word, first, nowhere], 3, "", told)
     told = "site 0: isn't among the folders: name the folders of all sites of the world"
-    for word in ("check", "weave"):
+    for word in ("check", "weave", "judge"):
         program.ends([word, second], 2, "", told)
 
 
@@ -394,7 +426,7 @@ ACCEPTS = LogKind(("R 1\n", "A {giver} 0 l 5\n"))
 LOG_KINDS = (
     LogKind(("R 1\n", "R 2\n"), behind="R"),
     LogKind(("R 1\n", "HELLO\nR 1\n"), unread=NO_RECORD.format(2)),
-    LogKind(("R 1\nR 1\n", "R 2\n", "HELLO\n"), unread=NO_RECORD.format(4)),
+    LogKind(("R 1\nR 1\n", "R 2\n", "HELLO\n"), broken=NO_RECORD.format(2)),
     LogKind(("R 1\n", "R 2\nR 2\n"), broken=NO_RECORD.format(3)),
     LogKind(("R 1\n", "R 1\n"), behind="R 2\nsum!", unread=damaged(5)),
     LogKind(None, unread=GONE),
@@ -471,7 +503,60 @@ def refuse_old_trace(program: Program) -> None:
     for path, copy in copies:
         shutil.copyfile(copy, path)
     told = "entry 2 of site 1 can't come next: another site's copy is older than this one's: copy all folders anew"
-    program.ends(["weave", zero.folder, one.folder], 3, "", told)
+    for word in ("weave", "judge"):
+        program.ends([word, zero.folder, one.folder], 3, "", told)
+
+
+# Sites 0 and 2 of a world of three, of 14, 13 and 13 rights to lower, give to site 1, which spends what it has.
+GIVES = (
+    "0 begin\n0 give 1 stock lower 14\n",
+    "1 accept 0 1 stock lower 14\n1 accept 2 1 stock lower 5\n",
+    "2 give 1 stock lower 5\n",
+)
+SPENDS = "1 begin\n1 escrow 1.1 stock -32\n1 commit 1.1\n1 share stock\n1 read stock\n1 begin\n1 escrow 1.2 stock -1\n"
+
+# What is changed in the trace of a site, and what the judge tells. The woven trace is: 0 restart, 0 begin, 0 give, 1
+# restart, 1 accept of 0, 2 restart, 2 give, 1 accept of 2, and then what site 1 spends, from the 9th entry on.
+TAMPERED: tuple[tuple[int, str, str, str], ...] = (
+    (0, "", "", "legal 15"),
+    (0, "0 begin -> begun 1.1", "3 begin -> begun 1.1", "illegal 2 site"),
+    (1, "1.2 stock -1 -> refused 7 short 0", "1.2 stock -9 -> granted", "illegal 15 grant"),
+    (1, "1.2 stock -1 -> refused 7 short 0", "1.2 stock -1 -> refused 7 short 1", "illegal 15 shortage"),
+    (1, "between 0 48", "between 9 48", "illegal 13 interval"),
+    (1, "share 0 52", "share 1 52", "illegal 12 reply"),
+    (1, "1.2 stock -1 -> refused 7 short 0", "1.2 stock -1 -> granted", "illegal 15 reply"),
+    (2, "2 give 1 stock lower 5 -> given 5", "2 give 1 stock lower 6 -> given 6", "entry 3 of site 1"),
+)
+
+
+def judged_by_audit(program: Program, folders: list[str]) -> tuple[int, str, str]:
+    """How an audit of the woven trace ends, or the weave, where it fails."""
+    status, woven, err = program.run(["weave", *folders])
+    if status:
+        return status, woven, err
+    escrow = built(program.children, "escrow", "--help")
+    status, out, err = program.children.run("escrow audit", [escrow, "audit"], woven.encode(), env={})
+    return status, out.decode(), err.decode()
+
+
+def judge_worlds(program: Program) -> None:
+    """Each kind of bad entry in the trace of one of three served sites: it is judged as by an audit of the woven trace."""
+    world = World(3, SHOP.fields)
+    sites = [program.created(f"judged{number}", world, number) for number in range(3)]
+    for site, lines in zip(sites, (GIVES[0], GIVES[1] + SPENDS, GIVES[2])):
+        program.run(["serve", site.folder, "--trace"], lines.encode())
+    folders = [site.folder for site in sites]
+    for number, old, new, told in TAMPERED:
+        path = f"judged{number}/trace"
+        kept = files_of(sites[number].folder)["trace"].decode()
+        if kept.count(old) != 1 and old:
+            raise Fault(f"{path}: {old} stands {kept.count(old)} times in {kept}")
+        program.file(path, kept.replace(old, new) if old else kept)
+        judged, audited = program.run(["judge", *reversed(folders)]), judged_by_audit(program, folders)
+        is_told = judged[1] == f"{told}\n" or judged[2].startswith(f"escrow_site: {told}")
+        if judged != audited or not is_told:
+            raise Fault(f"{new}: judged {judged}, and audited {audited}")
+        program.file(path, kept)
 
 
 def refuse_second(program: Program) -> None:
@@ -495,6 +580,7 @@ MISUSES = (
     tell_worlds_apart,
     refuse_folders,
     refuse_logs,
+    keep_closed_batches,
     refuse_exchanged,
     refuse_old_copy,
     refuse_folder_lists,
@@ -504,6 +590,8 @@ MISUSES = (
     refuse_too_much,
     refuse_traces,
     refuse_old_trace,
+    refuse_traced_logs,
+    judge_worlds,
     cut_traces,
     refuse_second,
 )
