@@ -261,6 +261,13 @@ fn assert_longest_is_read(rt: &impl Abort, schema: &Schema) {
     assert_eq!(rt; read_entry(schema, LONGEST.as_bytes()), Some(LONGEST_ENTRY));
 }
 
+/// It has room on the stack: where there is memory, it is added whole.
+fn assert_longest_is_appended(rt: &impl Abort, alloc: Global, schema: &Schema) {
+    let mut out = Vec::new(alloc);
+    append_entry(&mut out, schema, LONGEST_ENTRY).expect(rt, "memory");
+    assert!(rt; out.as_slice() == LONGEST.as_bytes());
+}
+
 #[test]
 fn longest_entry_is_a_line(rt: HostRuntime) {
     texts_are_lines();
@@ -268,6 +275,7 @@ fn longest_entry_is_a_line(rt: HostRuntime) {
     let text = write_entry(rt.alloc(), &schema, LONGEST_ENTRY).expect(&rt, "memory");
     assert_longest(&rt, text.as_str());
     assert_longest_is_read(&rt, &schema);
+    assert_longest_is_appended(&rt, rt.alloc(), &schema);
 }
 
 /// Lines that no command has.

@@ -15,4 +15,4 @@ explains_within (BadLine n) front back ended other why = absurd why
 explains_within (Work e) front back ended other why = absurd why
 explains_within Stuck front back ended other why = absurd why
 explains_within Illegal front back ended other why = absurd why
-explains_within NoMemory front back ended other why = why
+explains_within NoMemory front back ended other why = why.0

@@ -4,7 +4,7 @@ use Rattle.std.specs.List.{All}
 use Rattle.std.proofs.lemmas.List.{length-append}
 use Rattle.std.proofs.lemmas.Bool.{ne_eqb}
 use Rattle.std.proofs.lemmas.List.Elements.{All-tail}
-use Rattle.script_input.specs.Lines.{whole_lines_after, last_part_after, whole_lines, last_part, last_line, lines_of, with_header}
+use Rattle.script_input.specs.Lines.{whole_lines_after, last_part_after, until_break, whole_lines, last_part, last_line, lines_of, with_header}
 use Rattle.script_input.specs.Faults.{IsWithin}
 
 pub whole_lines_after-append : (front bs cs : List ℕ)
@@ -42,6 +42,12 @@ last_part_after-unbroken front [] h = sym (append-nil front)
 last_part_after-unbroken front (b ∷ bs) h =
     rw (ne_eqb b 10 (first_unbroken b bs h)) (last_part_after-unbroken (front ++ b ∷ []) bs (All-tail (λ b. b ≢ 10) b bs h)
     ∙ append_assoc front (b ∷ []) bs)
+
+pub until_break-unbroken : (part back : List ℕ) → All (λ b. b ≢ 10) part → until_break (part ++ back) ≡ length part + until_break back
+until_break-unbroken [] back h = omega arith
+until_break-unbroken (b ∷ part) back h =
+    let rest = until_break-unbroken part back (All-tail (λ b. b ≢ 10) b part h) in
+    rw (ne_eqb b 10 (first_unbroken b part h)) (omega (arith, rest))
 
 -- the last part of bytes in which no line ends is all of them
 pub last_part_after-none : (front bs : List ℕ) → whole_lines_after front bs ≡ [] → last_part_after front bs ≡ front ++ bs

@@ -7,8 +7,8 @@ use Rattle.script_input.specs.declared.reader.LineReader.{LineReader}
 use Rattle.script_input.specs.declared.fault.ScriptFault.TheVariants.{NoMemory}
 use Rattle.script_input.specs.Lines.{whole_lines_after, last_part_after, whole_lines, last_part, last_line, with_header, lines_of, script_lines}
 use Rattle.script_input.specs.Faults.{HasEndedAt, IsLineReached}
-use Rattle.script_input.specs.Reader.{pending, Reads, StopsAt}
-use Rattle.script_input.proofs.LineLemmas.{whole_lines_after-append, last_part_after-append, last_line-some, with_header-some, within-nothing}
+use Rattle.script_input.specs.Reader.{pending, Reads, StopsAt, ReadsNoFurther}
+use Rattle.script_input.proofs.LineLemmas.{whole_lines_after-append, last_part_after-append, last_line-some, with_header-some}
 use Rattle.script_input.proofs.ReaderLemmas.{behind_passed, between, within_gone}
 
 -- ---- the lines of bytes that go on
@@ -165,13 +165,14 @@ module _ (from to : Option (List ℕ)) (last : End) (r : LineReader) (header : L
         )
       ]
 
--- ---- want of memory, of which nothing is said but that it came
+-- ---- want of memory, before more is read
 
-pub stops_no_memory : (from to : Option (List ℕ)) (last : End) (read : List ℕ) → Consumes from to read → StopsAt from to last [] NoMemory
-stops_no_memory from to last read consumed = record {
-  front = [];
-  back = read;
-  consumed = consumed;
-  whole = refl;
-  why = within-nothing;
+pub stops_no_memory : (from to : Option (List ℕ)) (last : End) (given : List (List ℕ)) → ReadsNoFurther from to given
+    → StopsAt from to last given NoMemory
+stops_no_memory from to last given reads = record {
+  front = reads.front;
+  back = reads.piece;
+  consumed = reads.consumed;
+  whole = reads.whole;
+  why = (reads.within, reads.most);
 }

@@ -14,10 +14,10 @@ use Rattle.field_bounds.specs.declared.fault.SchemaFault.TheVariants as schema_f
 use Rattle.script_input.specs.declared.fault.ScriptFault.{ScriptFault}
 use Rattle.script_input.specs.declared.fault.ScriptFault.TheVariants as faults
 use Rattle.script_input.specs.declared.fault.ScriptFault.TheVariants.{Read, TooLong}
-use Rattle.script_input.specs.Lines.{whole_lines, last_part, last_line, lines_of, with_header}
+use Rattle.script_input.specs.Lines.{whole_lines, last_part, until_break, last_line, lines_of, with_header}
 use Rattle.script_input.specs.Faults.{HasEndedAt, IsWithin, TellsHeader}
 use Rattle.script_input.specs.Reader.{pending, given_line, IsFresh, IsDue, IsBehind, Reads, EndsLine, GivesLine, GivesPassed, FindsLong, StopsAt, ReadsNoFurther, HasGiven, HasPassed, Nexts}
-use Rattle.script_input.proofs.LineLemmas.{whole_lines-unbroken, last_part-unbroken, whole_lines-broken, last_part-broken, last_line-some, with_header-last, last_part_after-none, within-unbroken, some_after_line}
+use Rattle.script_input.proofs.LineLemmas.{until_break-unbroken, whole_lines-unbroken, last_part-unbroken, whole_lines-broken, last_part-broken, last_line-some, with_header-last, last_part_after-none, within-unbroken, within-nothing, some_after_line}
 
 -- ---- how many lines there are
 
@@ -35,6 +35,23 @@ pub lines_last : (whole : List (List ℕ)) (line : List ℕ) → (line ≡ [] �
     → with_header (whole ++ last_line line) ≡ whole ++ line ∷ []
 lines_last [] line some = with_header-last line
 lines_last (first ∷ whole) line some = ap (λ ls. first ∷ (whole ++ ls)) (last_line-some line (λ none. let e = some none in cc))
+
+-- ---- how much stands behind the line that comes next
+
+-- behind a part of it no more does
+near_behind : (bytes part back : List ℕ) → bytes ≡ part ++ back → All (λ b. b ≢ 10) part → length bytes ≤ until_break bytes + 65536
+    → length back ≤ until_break back + 65536
+near_behind bytes part back parts unbroken near =
+    omega (arith, ap length parts, length-append part back, ap until_break parts, until_break-unbroken part back unbroken, near)
+
+-- nor behind its LF
+near_broken : (back rest : List ℕ) → back ≡ 10 ∷ rest → length back ≤ until_break back + 65536 → length back ≤ 65536
+near_broken back rest parts near = omega (arith, ap until_break parts, near)
+
+-- and a read brings one piece
+near_grown : (part piece : List ℕ) → All (λ b. b ≢ 10) part → length piece ≤ 65536
+    → length (part ++ piece) ≤ until_break (part ++ piece) + 65536
+near_grown part piece unbroken most = omega (arith, length-append part piece, until_break-unbroken part piece unbroken, most)
 
 -- ---- where a reader stands
 
@@ -92,6 +109,9 @@ module _ (from to : Option (List ℕ)) (last : End) (old : LineReader) (given : 
     size : length (reads.gone ++ part) ≡ old.taken + length part
     size = omega (arith, length-append reads.gone part, reads.taken)
 
+    near : length back ≤ until_break back + 65536
+    near = near_behind (pending old) part back parts unbroken reads.near
+
     pub within_part : old.lines < 1000000 → old.taken + length part ≤ 268435456 → IsWithin (reads.gone ++ part)
     within_part lines bytes = record {
       lines = within-unbroken reads.gone part unbroken (omega (arith, lines, reads.lines, ap length at.whole));
@@ -121,6 +141,7 @@ module _ (from to : Option (List ℕ)) (last : End) (old : LineReader) (given : 
         whole = sym whole;
         passed = omega (arith, passed, at.passed, ap length part_last, length-append (last_part reads.gone) part);
       });
+      near = subst (λ l. length l ≤ until_break l + 65536) (sym left) near;
     }
 
     -- an LF ends the line
@@ -140,6 +161,7 @@ module _ (from to : Option (List ℕ)) (last : End) (old : LineReader) (given : 
                 ∙ ap (λ l. given ++ l ∷ []) part_last);
             passed = passed ∙ sym (ap length (last_part-broken (reads.gone ++ part)));
           });
+          near = omega (arith, near_broken back (pending new) left near, ap length left);
         }
 
     -- the end of the input ends it
@@ -162,13 +184,14 @@ module _ (from to : Option (List ℕ)) (last : End) (old : LineReader) (given : 
             all = ap (λ ls. with_header (ls ++ last_line (last_part (reads.gone ++ part)))) whole
                 ∙ ap (λ l. with_header (given ++ last_line l)) part_last ∙ lines_last given line some;
           });
+          near = omega (arith, ap length left);
         }
 
     -- the line is given
     pub gives_line : (new : LineReader) (most : ℕ) → old.passed ≡ 0 → given_line new ≡ part → length part ≤ most → new.passed ≡ 0
-        → old.lines < 1000000 → old.taken + length part ≤ 268435456 → EndsLine given part back (HasEndedAt to last)
+        → old.lines < 1000000 → old.taken + length part ≤ 268435456 → EndsLine given part back (HasEndedAt to last) → length back ≤ 65536
         → Reads from to last new (given ++ (last_part reads.gone ++ part) ∷ []) → GivesLine from to last given new most
-    gives_line new most none line short passed lines bytes ends stands =
+    gives_line new most none line short passed lines bytes ends few stands =
         let part_only : last_part reads.gone ++ part ≡ part = ap (λ l. l ++ part) (between none at) in record {
           front = reads.gone ++ part;
           back = back;
@@ -177,6 +200,7 @@ module _ (from to : Option (List ℕ)) (last : End) (old : LineReader) (given : 
           part = part_last ∙ part_only ∙ sym line;
           within = within_part lines bytes;
           ends = subst (λ l. EndsLine given l back (HasEndedAt to last)) (sym line) ends;
+          near = few;
           short = subst (λ l. length l ≤ most) (sym line) short;
           passed = passed;
           reads = subst (λ l. Reads from to last new (given ++ l ∷ [])) (part_only ∙ sym line) stands;
@@ -184,16 +208,32 @@ module _ (from to : Option (List ℕ)) (last : End) (old : LineReader) (given : 
 
     -- a line is given of which bytes were passed over
     pub gives_passed : (new : LineReader) → 0 < old.passed → new.passed ≡ 0
+        → old.lines < 1000000 → old.taken + length part ≤ 268435456 → length back ≤ 65536
         → Reads from to last new (given ++ (last_part reads.gone ++ part) ∷ []) → GivesPassed from to last given old new
-    gives_passed new was passed stands = record {
+    gives_passed new was passed lines bytes few stands = record {
       line = last_part reads.gone ++ part;
       was = was;
       long = omega (arith, at.passed, length-append (last_part reads.gone) part);
       passed = passed;
+      no_further = record {
+        front = reads.gone ++ part;
+        piece = back;
+        consumed = subst (Consumes from to) split reads.consumed;
+        whole = whole;
+        within = within_part lines bytes;
+        most = few;
+      };
       reads = stands;
     }
 
   -- ---- a read
+
+  within_due : IsDue old → IsWithin (reads.gone ++ pending old)
+  within_due due = elim due.lines [
+    | inl room ↦
+        within_part (pending old) [] (sym (append-nil (pending old))) due.unbroken (behind_open due.not_ended) room due.bytes
+    | inr none ↦ subst IsWithin (sym (ap (λ l. reads.gone ++ l) none.0 ∙ append-nil reads.gone)) within_gone
+  ]
 
   -- at its fault what was read is all
   pub stops_read : (later : Option (List ℕ)) (end : End) → Keeps to later → IsDue old → StopsAt from later end given Read
@@ -207,16 +247,26 @@ module _ (from to : Option (List ℕ)) (last : End) (old : LineReader) (given : 
         consumed = subst (Consumes from later) (sym (append-nil (reads.gone ++ pending old)))
             (Consumes-kept from to later (reads.gone ++ pending old) reads.consumed kept);
         whole = same;
-        why = (
-          elim due.lines [
-            | inl room ↦ within_part (pending old) [] (sym (append-nil (pending old))) due.unbroken at room due.bytes
-            | inr none ↦ subst IsWithin (sym (ap (λ l. reads.gone ++ l) none.0 ∙ append-nil reads.gone)) within_gone
-          ],
-          refl,
-        );
+        why = (within_due due, refl);
       }
 
-  -- and a read brings one piece
+  -- a read brings more
+  pub reads_more : (later : Option (List ℕ)) (end : End) (new : LineReader) (piece : List ℕ) → IsDue old → Consumes to later piece
+      → length piece ≤ 65536 → pending new ≡ pending old ++ piece → new.taken ≡ old.taken → new.lines ≡ old.lines → new.passed ≡ old.passed
+      → new.ended ≡ old.ended → Reads from later end new given
+  reads_more later end new piece due got most left taken lines passed ended =
+      let at = behind_open due.not_ended in record {
+        gone = reads.gone;
+        consumed = subst (Consumes from later) (append_assoc reads.gone (pending old) piece ∙ ap (λ l. reads.gone ++ l) (sym left))
+            (Consumes-trans from to later (reads.gone ++ pending old) piece reads.consumed got);
+        ended = λ e. let never = sym due.not_ended ∙ (sym ended ∙ e) in cc;
+        taken = taken ∙ reads.taken;
+        lines = lines ∙ reads.lines;
+        place = inl (record { whole = at.whole; passed = passed ∙ at.passed });
+        near = subst (λ l. length l ≤ until_break l + 65536) (sym left) (near_grown (pending old) piece due.unbroken most);
+      }
+
+  -- and it is one piece
   pub reads_no_further : (later : Option (List ℕ)) (piece : List ℕ) → IsDue old → Consumes to later piece → length piece ≤ 65536
       → ReadsNoFurther from later given
   reads_no_further later piece due got most = record {
@@ -224,6 +274,7 @@ module _ (from to : Option (List ℕ)) (last : End) (old : LineReader) (given : 
     piece = piece;
     consumed = Consumes-trans from to later (reads.gone ++ pending old) piece reads.consumed got;
     whole = whole_lines-unbroken reads.gone (pending old) due.unbroken ∙ sym (behind_open due.not_ended).whole;
+    within = within_due due;
     most = most;
   }
 
@@ -275,18 +326,18 @@ module _ (from to : Option (List ℕ)) (last : End) (old new : LineReader) (give
   nexts_given : (part back : List ℕ) (most : ℕ) (next : NextLine) → (old.passed ≡ 0 → next ≡ nexts.Line) → (0 < old.passed → next ≡ nexts.Passed)
       → pending old ≡ part ++ back → All (λ b. b ≢ 10) part → given_line new ≡ part → new.passed ≡ 0
       → old.lines < 1000000 → old.taken + length part ≤ 268435456 → (old.passed ≡ 0 → length part ≤ most)
-      → (old.passed ≡ 0 → EndsLine given part back (HasEndedAt to last))
+      → (old.passed ≡ 0 → EndsLine given part back (HasEndedAt to last)) → length back ≤ 65536
       → (at : IsBehind old reads.gone given) → Reads from to last new (given ++ (last_part reads.gone ++ part) ∷ [])
       → Nexts from to last given old new most (Ok next)
-  nexts_given part back most next is_line is_passed parts whole line passed lines bytes short ends at stands =
+  nexts_given part back most next is_line is_passed parts whole line passed lines bytes short ends few at stands =
       elim (zero_or_some old.passed) [
         | inl none ↦
             subst (λ n. Nexts from to last given old new most (Ok n)) (sym (is_line none))
             (gives_line from to last old given reads part back parts whole at new most none line (short none) passed lines bytes (ends none)
-            stands)
+            few stands)
         | inr was ↦
             subst (λ n. Nexts from to last given old new most (Ok n)) (sym (is_passed was))
-            (gives_passed from to last old given reads part back parts whole at new was passed stands)
+            (gives_passed from to last old given reads part back parts whole at new was passed lines bytes few stands)
       ]
 
   module _ (most : ℕ) (next : NextLine) (is_line : old.passed ≡ 0 → next ≡ nexts.Line) (is_passed : 0 < old.passed → next ≡ nexts.Passed)
@@ -300,7 +351,9 @@ module _ (from to : Option (List ℕ)) (last : End) (old new : LineReader) (give
         (ap (λ l. l ++ []) none) in
         let at = behind_some from to last old given reads more in
         nexts_given (take count (pending old)) (10 ∷ drop (count + 1) (pending old)) most next is_line is_passed parts unbroken step.line
-        step.passed lines (omega (arith, size, bytes)) (λ none. let h = short none in omega (arith, h, size)) (λ none. inl (drop (count + 1) (pending old), refl)) at
+        step.passed lines (omega (arith, size, bytes)) (λ none. let h = short none in omega (arith, h, size)) (λ none. inl (drop (count + 1) (pending old), refl))
+        (near_broken (10 ∷ drop (count + 1) (pending old)) (drop (count + 1) (pending old)) refl
+        (near_behind (pending old) (take count (pending old)) (10 ∷ drop (count + 1) (pending old)) parts unbroken reads.near)) at
         (reads_broken from to last old given reads (take count (pending old)) (10 ∷ drop (count + 1) (pending old)) parts unbroken at new left
         (omega (arith, step.taken, size)) step.lines step.passed step.ended)
 
@@ -321,7 +374,7 @@ module _ (from to : Option (List ℕ)) (last : End) (old new : LineReader) (give
         ] in
         nexts_given part [] most next is_line is_passed parts unbroken step.line step.passed lines (omega (arith, size, bytes))
         (λ none. let h = short none in omega (arith, h, size))
-        (λ none. inr (refl, (reads.ended ended, λ e. none_first (ap (λ l. l ++ part) (between from to last old given reads none at) ∙ e)))) at
+        (λ none. inr (refl, (reads.ended ended, λ e. none_first (ap (λ l. l ++ part) (between from to last old given reads none at) ∙ e)))) (omega arith) at
         (reads_ended from to last old given reads part [] parts unbroken at new refl left (omega (arith, step.taken, size)) step.lines step.passed
         (step.ended ∙ ended) ended none_first)
 
@@ -334,6 +387,7 @@ reads_none from last r fresh = record {
   taken = fresh.taken;
   lines = fresh.lines;
   place = inl (record { whole = refl; passed = fresh.passed });
+  near = omega (arith, ap length fresh.pending);
 }
 
 -- and while none is needed
@@ -343,6 +397,7 @@ no_further_none from to (inl same) = record {
   piece = [];
   consumed = subst (λ (t : Option (List ℕ)). Consumes from t []) (sym same) (Consumes-nil from);
   whole = refl;
+  within = within-nothing;
   most = omega arith;
 }
 no_further_none from to (inr reads) = reads
@@ -358,6 +413,7 @@ nexts_from from to last given old middle new most nexts.Passed none more is = re
   was = some_of old.passed (λ zero. let none' = none zero in let was = is.was in omega (arith, none', was));
   long = omega (arith, more, is.long);
   passed = is.passed;
+  no_further = is.no_further;
   reads = is.reads;
 }
 nexts_from from to last given old middle new most nexts.End none more is = is
@@ -386,7 +442,7 @@ stops_header from to last r most faults.NoMemory line told = record {
   back = line.back;
   consumed = line.consumed;
   whole = line.whole;
-  why = line.within;
+  why = (line.within, line.near);
 }
 stops_header from to last r most faults.Read line told = absurd told
 stops_header from to last r most faults.TooLong line told = absurd told

@@ -53,7 +53,8 @@ pub record IsLineReached (read : List ℕ) (number most : ℕ) (ended : Type 0) 
 -- What a fault says of the bytes in front of it, which are within the limits, and of those that were read after them. So
 -- too long an input is told just where a byte follows the 1,000,000th line or the 268,435,456th byte. What may be written at a
 -- write fault, and of which input, is told by each call. The faults that are a work's alone
--- have no such reason: a call each of whose faults is explained so answers none of them.
+-- have no such reason: a call each of whose faults is explained so answers none of them. At want of memory at most 65,536 bytes,
+-- which is what one read brings at most, stand behind the bytes in front of it.
 abbrev pub Explains : ScriptFault → List ℕ → List ℕ → Type 0 → Type 0
 Explains faults.Read front back ended = IsWithin front × (back ≡ [])
 Explains faults.TooLong front back ended = IsWithin front
@@ -66,7 +67,7 @@ Explains (faults.BadLine number) front back ended = ⊥
 Explains (faults.Work fault) front back ended = ⊥
 Explains faults.Stuck front back ended = ⊥
 Explains faults.Illegal front back ended = ⊥
-Explains faults.NoMemory front back ended = IsWithin front
+Explains faults.NoMemory front back ended = IsWithin front × (length back ≤ 65536)
 
 -- The input has ended: no known byte is left, and the last read gave nothing.
 abbrev pub HasEndedAt : Option (List ℕ) → End → Type 0

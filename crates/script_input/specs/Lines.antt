@@ -1,5 +1,5 @@
 -- The lines of an input (this project).
-use Rattle.std.specs.Prelude.{ℕ, List, [], ◌∷◌, ◌++◌, ◌==◌, if◌then◌else◌}
+use Rattle.std.specs.Prelude.{ℕ, List, [], ◌∷◌, ◌++◌, ◌+◌, ◌==◌, if◌then◌else◌}
 
 -- The lines that LF (10) ends, the first of which begins with `front`.
 abbrev pub whole_lines_after : List ℕ → List ℕ → List (List ℕ)
@@ -12,6 +12,11 @@ abbrev pub last_part_after : List ℕ → List ℕ → List ℕ
 last_part_after front [] = front
 last_part_after front (b ∷ bs) =
     if b == 10 then last_part_after [] bs else last_part_after (front ++ b ∷ []) bs
+
+-- How many bytes stand before the first LF; all of them where there is none.
+abbrev pub until_break : List ℕ → ℕ
+until_break [] = 0
+until_break (b ∷ bs) = if b == 10 then 0 else until_break bs + 1
 
 -- The lines that LF ends, without it.
 abbrev pub whole_lines : List ℕ → List (List ℕ)

@@ -9,7 +9,7 @@ use Rattle.script_input.specs.declared.reader.LineReader.{LineReader}
 use Rattle.script_input.specs.declared.reader.NextLine.{NextLine}
 use Rattle.script_input.specs.declared.reader.NextLine.TheVariants as nexts
 use Rattle.script_input.specs.Window.{rest_of, line_of}
-use Rattle.script_input.specs.Lines.{whole_lines, last_part, script_lines}
+use Rattle.script_input.specs.Lines.{whole_lines, last_part, until_break, script_lines}
 use Rattle.script_input.specs.Faults.{BeginsWithBreak, Explains, HasEndedAt, IsWithin}
 
 -- ---- what a reader of lines shows
@@ -88,7 +88,8 @@ pub record IsBehindAll (r : LineReader) (gone : List ℕ) (given : List (List �
   pub parts : given ≡ whole_lines gone ++ last_part gone ∷ []
   pub all : script_lines gone ≡ given
 
--- The source has lost what was read, and of that these lines were given, in their order.
+-- The source has lost what was read, and of that these lines were given, in their order. Behind the line that comes next no more
+-- stands than one read brings, so at most 65,536 bytes.
 pub record Reads (from to : Option (List ℕ)) (last : End) (r : LineReader) (given : List (List ℕ)) : Type 0 where
   pub gone : List ℕ
   pub consumed : Consumes from to (gone ++ pending r)
@@ -96,6 +97,7 @@ pub record Reads (from to : Option (List ℕ)) (last : End) (r : LineReader) (gi
   pub taken : r.taken ≡ length gone
   pub lines : r.lines ≡ length given
   pub place : IsBehind r gone given ⊎ IsBehindAll r gone given
+  pub near : length (pending r) ≤ until_break (pending r) + 65536
 
 -- A line is given that so many bytes are the rest of, and as many behind it as end it.
 pub record HasGiven (old new : LineReader) (count ending : ℕ) : Type 0 where
@@ -120,8 +122,18 @@ pub record HasPassed (old new : LineReader) (count : ℕ) : Type 0 where
 abbrev pub EndsLine : List (List ℕ) → List ℕ → List ℕ → Type 0 → Type 0
 EndsLine given line back ended = BeginsWithBreak back ⊎ ((back ≡ []) × (ended × (line ≡ [] → given ≡ [])))
 
+-- These lines stand whole in front of the last piece that was read, of at most 65,536 bytes, and no other; and they are within the
+-- limits.
+pub record ReadsNoFurther (from to : Option (List ℕ)) (given : List (List ℕ)) : Type 0 where
+  pub front : List ℕ
+  pub piece : List ℕ
+  pub consumed : Consumes from to (front ++ piece)
+  pub whole : whole_lines front ≡ given
+  pub within : IsWithin front
+  pub most : length piece ≤ 65536
+
 -- The next line is given. It has at most so many bytes, and stands whole in what was read: behind a front, within the limits, of
--- the lines that were given before it.
+-- the lines that were given before it, and in front of at most 65,536 bytes.
 pub record GivesLine (from to : Option (List ℕ)) (last : End) (given : List (List ℕ)) (r : LineReader) (most : ℕ) : Type 0 where
   pub front : List ℕ
   pub back : List ℕ
@@ -130,6 +142,7 @@ pub record GivesLine (from to : Option (List ℕ)) (last : End) (given : List (L
   pub part : last_part front ≡ given_line r
   pub within : IsWithin front
   pub ends : EndsLine given (given_line r) back (HasEndedAt to last)
+  pub near : length back ≤ 65536
   pub short : length (given_line r) ≤ most
   pub passed : r.passed ≡ 0
   pub reads : Reads from to last r (given ++ given_line r ∷ [])
@@ -145,6 +158,7 @@ pub record GivesPassed (from to : Option (List ℕ)) (last : End) (given : List 
   pub was : 0 < old.passed
   pub long : old.passed ≤ length line
   pub passed : new.passed ≡ 0
+  pub no_further : ReadsNoFurther from to given
   pub reads : Reads from to last new (given ++ line ∷ [])
 
 -- The input has ended within the limits, and all its lines were given.
@@ -162,14 +176,6 @@ pub record StopsAt (from to : Option (List ℕ)) (last : End) (given : List (Lis
   pub consumed : Consumes from to (front ++ back)
   pub whole : whole_lines front ≡ given
   pub why : Explains fault front back (HasEndedAt to last)
-
--- In front of the last piece that was read, of at most 65,536 bytes, these lines stand whole, and no other.
-pub record ReadsNoFurther (from to : Option (List ℕ)) (given : List (List ℕ)) : Type 0 where
-  pub front : List ℕ
-  pub piece : List ℕ
-  pub consumed : Consumes from to (front ++ piece)
-  pub whole : whole_lines front ≡ given
-  pub most : length piece ≤ 65536
 
 -- What comes next, behind the lines that were given.
 abbrev pub Nexts : Option (List ℕ) → Option (List ℕ) → End → List (List ℕ) → LineReader → LineReader → ℕ

@@ -127,6 +127,22 @@ Example:
   escrow_site weave shop0 shop1 > trace
   escrow audit < trace";
 
+const JUDGE_ABOUT: &str = "Judges the one trace of all sites of a world";
+
+const JUDGE_EXAMPLE: &str = "\
+It takes the folders that `weave` takes, and weaves them, but writes no trace: it
+writes the one line that `escrow audit` would write of that trace, and ends with its
+status, 0 where it is legal and else 3. There may be any number of entries.
+
+  legal N             all N entries are legal
+  illegal AT RULE     the entry AT, from 1, is the first that breaks a rule
+
+It reads each trace twice, and holds the entries of one trace at a time, then 64 KiB
+of each.
+
+Example:
+  escrow_site judge shop0 shop1";
+
 fn folder_arg<'a>(alloc: Global) -> Arg<'a> {
     Arg::new(alloc, "FOLDER")
         .help("The site's folder")
@@ -257,6 +273,13 @@ fn weave_command<'a>(alloc: Global) -> Result<Command<'a>, AllocError> {
         .arg(folders_arg(alloc))
 }
 
+fn judge_command<'a>(alloc: Global) -> Result<Command<'a>, AllocError> {
+    Command::new(alloc, "judge")
+        .about(JUDGE_ABOUT)
+        .after_help(JUDGE_EXAMPLE)
+        .arg(folders_arg(alloc))
+}
+
 fn version_command<'a>(alloc: Global) -> Command<'a> {
     Command::new(alloc, "version").about(VERSION_ABOUT)
 }
@@ -281,6 +304,7 @@ fn program<'a>(alloc: Global) -> Result<Command<'a>, AllocError> {
     let whole = with_part(whole, check_command(alloc))?;
     let whole = with_part(whole, settle_command(alloc))?;
     let whole = with_part(whole, weave_command(alloc))?;
+    let whole = with_part(whole, judge_command(alloc))?;
     whole.subcommand(version_command(alloc))
 }
 
@@ -375,6 +399,12 @@ fn weave_task(alloc: Global, asked: &ArgMatches<'_>) -> Result<Task, AllocError>
     })
 }
 
+fn judge_task(alloc: Global, asked: &ArgMatches<'_>) -> Result<Task, AllocError> {
+    Ok(Task::Judge {
+        folders: texts_of(alloc, asked, "FOLDER")?,
+    })
+}
+
 // The task that the words of a command line ask for.
 fn task_of(alloc: Global, matches: &ArgMatches<'_>) -> Result<Task, Error> {
     match matches.subcommand() {
@@ -384,6 +414,7 @@ fn task_of(alloc: Global, matches: &ArgMatches<'_>) -> Result<Task, Error> {
         Some(("check", asked)) => Ok(check_task(alloc, asked)?),
         Some(("settle", asked)) => Ok(settle_task(alloc, asked)?),
         Some(("weave", asked)) => Ok(weave_task(alloc, asked)?),
+        Some(("judge", asked)) => Ok(judge_task(alloc, asked)?),
         Some(("version", _)) => Ok(Task::Version),
         _ => Err(program(alloc)?.error(ErrorKind::MissingSubcommand, "no subcommand")?),
     }

@@ -55,6 +55,10 @@ pub enum Task {
     Weave {
         folders: Vec<String>,
     },
+    /// To judge the one trace of all sites of a world.
+    Judge {
+        folders: Vec<String>,
+    },
     /// To tell which versions of files are read and made.
     Version,
 }

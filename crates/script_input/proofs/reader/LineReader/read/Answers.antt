@@ -1,7 +1,7 @@
 use Rattle.std.proofs.lemmas.Result.{err_from_is_err_and}
-use Rattle.std.proofs.Common.{[], arith}
+use Rattle.std.proofs.Common.{[], refl, arith}
 use Rattle.std.proofs.KnownBytes.{Consumes-nil, Consumes-kept}
-use Rattle.script_input.proofs.ReaderLemmas.{stops_read, reads_no_further}
+use Rattle.script_input.proofs.ReaderLemmas.{stops_read, reads_more, reads_no_further}
 use Rattle.script_input.proofs.reader.LineReader.read.Goals as goal
 
 pub returns-in_err-count-clause-err : goal.returns-in_err-count-clause-err
@@ -22,3 +22,14 @@ pub returns-else-count-eq0-clause-no_further : goal.returns-else-count-eq0-claus
 returns-else-count-eq0-clause-no_further g c = λ from given reads.
     let (piece, (size, (most, (rest, got)))) = c.in_ok-count.ensures.ok in
     reads_no_further from _ _ c.args.self.now given reads (g.R.Source.bytes c.fill.new.reader) piece c.requires.due got (omega (arith, size, most))
+
+pub returns-then-count-eq0-clause-no_further : goal.returns-then-count-eq0-clause-no_further
+returns-then-count-eq0-clause-no_further g c = λ from given reads.
+    let (piece, (size, (most, (rest, got)))) = c.in_ok-count.ensures.ok in
+    reads_no_further from _ _ c.args.self.now given reads (g.R.Source.bytes c.fill.new.reader) piece c.requires.due got (omega (arith, size, most))
+
+pub returns-else-count-eq0-clause-ok : goal.returns-else-count-eq0-clause-ok
+returns-else-count-eq0-clause-ok g c = λ from given reads.
+    let (piece, (size, (most, (rest, got)))) = c.in_ok-count.ensures.ok in
+    reads_more from _ _ c.args.self.now given reads (g.R.Source.bytes c.fill.new.reader) (g.R.Source.last c.fill.new.reader) _ piece c.requires.due
+    got (omega (arith, size, most)) rest refl refl refl refl
