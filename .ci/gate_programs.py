@@ -3,6 +3,7 @@ that are preloaded to them.
 
 Needs Python 3.10, Linux and the C library of GNU.
 """
+import contextlib
 import glob
 import os
 import resource
@@ -109,6 +110,16 @@ def preloaded(children, folder, name):
     return library
 
 
+@contextlib.contextmanager
+def as_file(given):
+    """A file in memory with these bytes, read from its start. Of a file each read brings as much as it has room for; what
+    a read of a pipe brings depends on how fast the other end writes, and with it which growth comes where."""
+    with os.fdopen(os.memfd_create("given"), "r+b") as file:
+        file.write(given)
+        file.seek(0)
+        yield file
+
+
 def refusing(children, library, name, words, given, number, on, **how):
     """Runs with the Nth call of what the library stands before refused, alone or with all later ones. The status, what
     was written and told, and whether a call was refused."""
@@ -117,7 +128,8 @@ def refusing(children, library, name, words, given, number, on, **how):
     if on:
         env["REFUSE_ON"] = "1"
     try:
-        ended = children.run(name, words, given, env=env, pass_fds=(write,), **how)
+        with as_file(given or b"") as stdin:
+            ended = children.run(name, words, **{"stdin": stdin, "env": env, "pass_fds": (write,), **how})
     finally:
         os.close(write)
         told = os.read(read, 100)
