@@ -1,10 +1,14 @@
-"""The examples of the page README.md do what stands there: a first sale, and carts."""
+"""The examples of the page README.md do what stands there: a first sale, a web service, and carts."""
 
 from __future__ import annotations
 
 import os
+import re
+import shutil
+import socket
 import subprocess
 import sys
+import textwrap
 import unittest
 
 from programs import PACKAGES, SiteTest, escrow_site
@@ -14,19 +18,33 @@ import escrow
 def blocks() -> list[str]:
     """The indented blocks of the page, as they would be typed."""
     with open(os.path.join(PACKAGES, "README.md"), encoding="utf-8") as file:
-        pieces = file.read().split("\n\n")
-    return ["".join(f"{line[4:]}\n" for line in piece.split("\n")) for piece in pieces if piece.startswith("    ")]
+        pieces = re.findall(r"(?:^    .*\n|^\n)+", file.read(), re.M)
+    return [text for text in (textwrap.dedent(piece).strip("\n") + "\n" for piece in pieces) if text != "\n"]
+
+
+def examples() -> list[tuple[str, str]]:
+    """What is typed to make and run a script, and what it prints, one after another."""
+    found = [piece for block in blocks() if block.startswith("cat > ") for piece in [block.rpartition("\n\n")]]
+    return [(f"{typed}\n", printed) for typed, _, printed in found]
+
+
+def free_port() -> int:
+    """A port that nobody has now."""
+    with socket.create_server(("127.0.0.1", 0)) as it:
+        return int(it.getsockname()[1])
 
 
 class ReadmeTest(SiteTest):
     """What is typed, and what it prints."""
 
     def test_each_example(self) -> None:
-        typed, found = blocks()[::2], blocks()[1::2]
-        self.assertEqual(len(typed), 2)
-        environment = {**os.environ, "ESCROW_SITE": escrow_site()}
-        for text, printed in zip(typed, found):
-            text = text.replace("PYTHONPATH=clients/python python3 ", f'PYTHONPATH="{PACKAGES}" "{sys.executable}" ')
+        found = examples()
+        self.assertEqual([typed.split()[2] for typed, _ in found], ["sale.py", "shop.py", "carts.py"])
+        environment = {**os.environ, "ESCROW_SITE": escrow_site(), "PYTHONPATH": PACKAGES}
+        for text, printed in found:
+            if "curl " in text and not shutil.which("curl"):
+                self.skipTest("curl isn't there")
+            text = text.replace("python3 ", f'"{sys.executable}" ').replace("8080", str(free_port()))
             told = subprocess.run(["sh", "-c", text], cwd=self.place, env=environment, capture_output=True, text=True, check=False)
             self.assertEqual((told.stdout, told.stderr), (printed, ""))
 
