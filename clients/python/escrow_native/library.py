@@ -4,11 +4,16 @@ from __future__ import annotations
 
 import ctypes
 import os
+import subprocess
 from ctypes import POINTER, c_bool, c_char_p, c_int64, c_size_t, c_uint16, c_uint32, c_uint64, c_void_p
 from pathlib import Path
 
+import escrow_programs
+
 TEXT = 256
 """The most bytes of an entry's text."""
+UNTOLD = 11
+"""The status of a line that was carried out, and whose answer is lost."""
 
 STATUS = (
     "done", "out of memory", "the site is closed", "the site is open already", "the header tells no schema",
@@ -56,11 +61,24 @@ _CALLS = {
 }
 
 
+def _path() -> str:
+    """Where the library is. `FileNotFoundError` where it is nowhere."""
+    named = os.environ.get("ESCROW_LIBRARY") or escrow_programs.path("libescrow_c.so")
+    if named:
+        return named
+    finder = Path(__file__).resolve().parents[3] / "tools" / "library"
+    if not os.access(finder, os.X_OK):
+        raise FileNotFoundError("libescrow_c.so isn't here: install the wheel that has it, or name it by $ESCROW_LIBRARY")
+    found = subprocess.run([str(finder)], capture_output=True, text=True, check=False)
+    if found.returncode != 0:
+        raise FileNotFoundError(found.stderr.strip())
+    return found.stdout.rstrip("\n")
+
+
 def load() -> ctypes.CDLL:
-    """The library. `OSError` where it isn't there."""
-    top = Path(__file__).resolve().parents[3]
-    path = os.environ.get("ESCROW_LIBRARY") or top / "crates" / "escrow_c" / "out" / "libescrow_c.so"
-    library = ctypes.CDLL(str(path))
+    """The library: where `$ESCROW_LIBRARY` says, or that of the wheel, or, in a checkout of the repository, that of
+    tools/library. `OSError` where it is nowhere, with what to do, or can't be loaded."""
+    library = ctypes.CDLL(_path())
     for name, words in _CALLS.items():
         call = getattr(library, name)
         call.argtypes, call.restype = words, c_uint32

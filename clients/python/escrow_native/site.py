@@ -3,6 +3,7 @@
 from __future__ import annotations
 
 import ctypes
+import errno
 import fcntl
 import json
 import os
@@ -26,7 +27,7 @@ from escrow import (
     Statement,
 )
 
-from .library import STATUS, TEXT, Answer, Ask, Handle, load
+from .library import STATUS, TEXT, UNTOLD, Answer, Ask, Handle, load
 
 PathLike = Union[str, "os.PathLike[str]"]
 BEGIN, ESCROW, COMMIT, ABORT, GIVE, RESTATE, SPARE, TIGHTEN, ACCEPT, READ, SHARE, RESTART = range(1, 13)
@@ -47,6 +48,26 @@ class Fault(EscrowError):
         self.status = status
         self.line = line
         super().__init__(STATUS[status] + (f" (line {line})" if line else ""))
+
+
+LOST = (
+    "no log is here. At a site's first start, and never again, escrow_native.create(path) makes it. Else put its newest log "
+    "back: a site over a new log has its first rights again, and sells what was sold"
+)
+"""What to do where a start finds no log."""
+THERE = "a log is here already, which escrow_native.Site opens; a site whose log is made anew sells what was sold"
+"""What to do where the log is not to be made."""
+
+
+def create(path: PathLike) -> None:
+    """Makes the log of a site, of no records, and its name safe in its folder: once for each site of a world, and never
+    again. `FileExistsError` where something is at the path, a log or a link to none."""
+    try:
+        file = os.open(path, os.O_RDWR | os.O_CREAT | os.O_EXCL | os.O_CLOEXEC, 0o644)
+    except FileExistsError:
+        raise FileExistsError(errno.EEXIST, THERE, os.fspath(path)) from None
+    os.close(file)
+    _sync_folder(path)
 
 
 class Transaction:
@@ -81,18 +102,18 @@ class Site:
     """One site over one file, for the threads of this process: a lock stands between their calls."""
 
     def __init__(self, schema: PathLike, number: int, path: PathLike, *, sync: bool = True) -> None:
-        """Opens the site of this number over a log, which is made where there is none, and restarts it.
+        """Opens the site of this number over its log, which `create` has made once, and restarts it.
 
         `schema` is the header, or the path of a file that begins with it. `sync=False` doesn't sync the file: a stop of
-        the machine may lose what was answered. `Fault` where it isn't opened; `BlockingIOError` where another process
-        has the file.
+        the machine may lose what was answered. `FileNotFoundError` where no log is there: none is made, since that would
+        sell again what was sold. `Fault` where it isn't opened; `BlockingIOError` where another process has the file.
         """
         header = _header(schema)
         self._number, self._names = number, [it["name"] for it in json.loads(header)["fields"]]
         self._sync, self._lock, self._library = sync, threading.Lock(), load()
         self._handle, self._ask_in, self._answer = Handle(), Ask(), Answer()
         self._copied, self._room = ctypes.c_size_t(), ctypes.create_string_buffer(1 << 16)
-        self._file = os.open(path, os.O_RDWR | os.O_CREAT | os.O_CLOEXEC, 0o644)
+        self._file = _opened(path)
         try:
             fcntl.flock(self._file, fcntl.LOCK_EX | fcntl.LOCK_NB)
             self._had = self._open(header)
@@ -144,12 +165,19 @@ class Site:
     def _field(self, field: str) -> int:
         return self._names.index(field) if field in self._names else 0xFFFF
 
+    def _answered(self, status: int) -> None:
+        """Keeps what an answer added to the log. What was carried out and not told closes the site: who opens it anew sees
+        what became of it."""
+        if status == UNTOLD:
+            self.close()
+        self._done(status)
+        self._keep()
+
     def _ask(self, kind: int, field: str = "", **numbers: int) -> Answer:
         ask = Ask(kind=kind, field=self._field(field), **numbers)
         answer = Answer()
         with self._lock:
-            self._done(self._library.escrow_site_ask(self._handle, ask, answer))
-            self._keep()
+            self._answered(self._library.escrow_site_ask(self._handle, ask, answer))
         if answer.kind == REFUSED:
             raise self._refusal(ask, answer, field)
         return answer
@@ -178,10 +206,8 @@ class Site:
         """Asks what a line spells, and answers the text of the entry; `Fault` where it spells nothing."""
         asked, text, length = line.encode(), ctypes.create_string_buffer(TEXT), ctypes.c_size_t()
         with self._lock:
-            self._done(
-                self._library.escrow_site_tell(self._handle, asked, len(asked), text, TEXT, ctypes.byref(length))
-            )
-            self._keep()
+            told = ctypes.byref(length)
+            self._answered(self._library.escrow_site_tell(self._handle, asked, len(asked), text, TEXT, told))
         return text.raw[: length.value].decode()
 
     def begin(self) -> Transaction:
@@ -260,6 +286,14 @@ class Site:
 def _header(schema: PathLike) -> bytes:
     text = schema if isinstance(schema, str) and schema.lstrip().startswith("{") else Path(schema).read_text("utf-8")
     return text.split("\n", 1)[0].encode()
+
+
+def _opened(path: PathLike) -> int:
+    """The file of a log that is there."""
+    try:
+        return os.open(path, os.O_RDWR | os.O_CLOEXEC)
+    except FileNotFoundError:
+        raise FileNotFoundError(errno.ENOENT, LOST, os.fspath(path)) from None
 
 
 def _whole(file: int) -> bytes:

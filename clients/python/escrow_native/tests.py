@@ -10,7 +10,7 @@ import unittest
 
 import escrow
 
-from . import Fault, Site
+from . import Fault, Site, create
 
 WORLD = '{"sites":2,"fields":[{"name":"stock","floor":0,"ceiling":100,"value":40}]}'
 WIDE = '{"sites":1,"fields":[{"name":"stock","floor":0,"ceiling":1000000,"value":500000}]}'
@@ -21,10 +21,14 @@ class SiteTests(unittest.TestCase):
         folder = tempfile.TemporaryDirectory()
         self.addCleanup(folder.cleanup)
         self.folder = folder.name
-        self.log = self.path("shop0.log")
+        self.log = self.new_log("shop0.log")
 
     def path(self, name: str) -> str:
         return os.path.join(self.folder, name)
+
+    def new_log(self, name: str) -> str:
+        create(self.path(name))
+        return self.path(name)
 
     def bytes_of_log(self) -> bytes:
         with open(self.log, "rb") as file:
@@ -64,7 +68,7 @@ class SiteTests(unittest.TestCase):
             self.assertEqual(refused.exception.number, escrow.Refusal.NO_FIELD)
 
     def test_rights_go_from_site_to_site(self) -> None:
-        with Site(WORLD, 0, self.log) as one, Site(WORLD, 1, self.path("shop1.log")) as other:
+        with Site(WORLD, 0, self.log) as one, Site(WORLD, 1, self.new_log("shop1.log")) as other:
             told = other.give(0, "stock", escrow.Kind.LOWER, 7)
             self.assertEqual(told, escrow.Statement(1, 0, "stock", escrow.Kind.LOWER, 7))
             self.assertEqual((one.accept(told), one.accept(told)), (7, 0))
@@ -93,8 +97,22 @@ class SiteTests(unittest.TestCase):
             with self.assertRaises(Fault) as fault:
                 Site(world, number, self.log)
             self.assertEqual((fault.exception.status, fault.exception.line), (status, line))
-        with Site(WORLD, 0, self.path("other.log")), self.assertRaises(BlockingIOError):
+        with Site(WORLD, 0, self.new_log("other.log")), self.assertRaises(BlockingIOError):
             Site(WORLD, 0, self.path("other.log"))
+
+    def test_a_lost_log_is_not_made_anew(self) -> None:
+        with Site(WORLD, 0, self.log) as site:
+            site.change("stock", -20)
+        kept = self.path("kept")
+        os.rename(self.log, kept)
+        with self.assertRaises(FileNotFoundError) as lost:
+            Site(WORLD, 0, self.log)
+        self.assertIn("put its newest log back", str(lost.exception))
+        os.rename(kept, self.log)
+        with self.assertRaises(FileExistsError):
+            create(self.log)
+        with Site(WORLD, 0, self.log) as site, self.assertRaises(escrow.Short):
+            site.change("stock", -1)
 
     def test_threads_share_a_site(self) -> None:
         with Site(WIDE, 0, self.log, sync=False) as site:
@@ -117,11 +135,14 @@ class SiteTests(unittest.TestCase):
 
 def rounds_a_second(rounds: int) -> float:
     """How many changes a second a site makes over a file that isn't synced."""
-    with tempfile.TemporaryDirectory() as folder, Site(WIDE, 0, os.path.join(folder, "log"), sync=False) as site:
-        began = time.perf_counter()
-        for number in range(rounds):
-            site.change("stock", 20 if number % 2 else -20)
-        return rounds / (time.perf_counter() - began)
+    with tempfile.TemporaryDirectory() as folder:
+        log = os.path.join(folder, "log")
+        create(log)
+        with Site(WIDE, 0, log, sync=False) as site:
+            began = time.perf_counter()
+            for number in range(rounds):
+                site.change("stock", 20 if number % 2 else -20)
+            return rounds / (time.perf_counter() - began)
 
 
 if __name__ == "__main__":
