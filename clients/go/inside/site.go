@@ -1,10 +1,10 @@
 // A site of escrow inside a Go program, by cgo: an example, which tries itself. To build it, name the archives:
 //
-//	CGO_LDFLAGS="crates/escrow_c/out/libescrow_c.a KIT/c/liblibc_c.a" go build clients/go/site.go
+//	CGO_LDFLAGS="crates/escrow_c/out/libescrow_c.a KIT/c/liblibc_c.a" go build clients/go/inside/site.go
 package main
 
 /*
-#cgo CFLAGS: -I${SRCDIR}/../../include
+#cgo CFLAGS: -I${SRCDIR}/../../../include
 #include "escrow.h"
 */
 import "C"
