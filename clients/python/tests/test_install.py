@@ -48,10 +48,11 @@ class InstallTest(unittest.TestCase):
         return done.returncode, done.stderr, asked
 
     def test_each_machine(self) -> None:
-        """A shop gets the client, the broker's machine the broker, and neither a browser, which only the tests need."""
+        """A shop gets the client, the broker's machine the broker, and neither a browser, nor what only the tests need."""
         shop, broker = ["python3-paho-mqtt"], ["mosquitto"]
-        for words, packages in ((["--shop"], shop), (["--broker"], broker), ([], broker + shop),
-                                (["--tests"], [*broker, *shop, "chromium", "fonts-dejavu-core"])):
+        tests = [*broker, *shop, "chromium", "fonts-dejavu-core", "mypy", "golang-go"]
+        asked: list[tuple[list[str], list[str]]] = [(["--shop"], shop), (["--broker"], broker), ([], broker + shop), (["--tests"], tests)]
+        for words, packages in asked:
             told = "".join(f"install_clients: {it} is missing\n" for it in packages)
             self.assertEqual(self.run_copy(*words), (1, told, packages))
             self.assertEqual(self.run_copy("--check", *words), (1, told, []))
