@@ -5,16 +5,21 @@ They lie in the folder `bin` of this package. A checkout of the repository has n
 packages find them too. The commands that the wheel installs, of the same names, run them."""
 
 import os
-import runpy
 import sys
 from typing import NoReturn, Optional
 
-from escrow import __version__
-
-__all__ = ["__version__", "path"]
+__all__ = ["__version__", "path"]  # noqa: F822
 _BIN = os.path.join(os.path.dirname(os.path.abspath(__file__)), "bin")
 NOT_RUN = 70
 """The status where no program was run, that of the scripts at the top of the repository."""
+
+
+def __getattr__(name: str) -> str:
+    if name == "__version__":  # the client is asked for where it is used: a program starts without it
+        from escrow import __version__
+
+        return __version__
+    raise AttributeError(f"module {__name__} has no attribute {name}")
 
 
 def path(name: str) -> Optional[str]:
@@ -49,9 +54,15 @@ def escrow() -> NoReturn:
 
 def escrow_board() -> None:
     """The command `escrow_board`: `python3 -m escrow_board`."""
-    runpy.run_module("escrow_board", run_name="__main__", alter_sys=True)
+    _run_module("escrow_board")
 
 
 def escrow_carrier() -> None:
     """The command `escrow_carrier`: `python3 -m escrow_carrier`."""
-    runpy.run_module("escrow_carrier", run_name="__main__", alter_sys=True)
+    _run_module("escrow_carrier")
+
+
+def _run_module(name: str) -> None:
+    import runpy
+
+    runpy.run_module(name, run_name="__main__", alter_sys=True)

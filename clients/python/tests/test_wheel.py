@@ -68,6 +68,18 @@ class WheelTest(unittest.TestCase):
         with open(self.wheel, "rb") as one, open(other, "rb") as two:
             self.assertEqual(hashlib.sha256(one.read()).digest(), hashlib.sha256(two.read()).digest())
 
+    @unittest.skipUnless(HAS_LIBRARY, "packed/libescrow_c.so.gz isn't there")
+    def test_pip_makes_the_same(self) -> None:
+        """`pip install clients/python` calls this, and finds nothing that is to be downloaded."""
+        folder = os.path.join(self.place, "by_pip")
+        script = f"import wheel_backend; print(wheel_backend.build_wheel({folder!r}))"
+        done = subprocess.run([sys.executable, "-c", script], cwd=PACKAGES, capture_output=True, text=True, check=True)
+        self.assertEqual(done.stdout, f"{NAME.format(release())}\n")
+        with open(self.wheel, "rb") as one, open(os.path.join(folder, done.stdout.strip()), "rb") as two:
+            self.assertEqual(one.read(), two.read())
+        with open(os.path.join(PACKAGES, "pyproject.toml"), encoding="utf-8") as file:
+            self.assertIn('\nrequires = []\nbuild-backend = "wheel_backend"\n', file.read())
+
     def test_what_is_in_it(self) -> None:
         """Each file with its sum and length, the programs of packed/ among them, and nothing of the checkout beside."""
         told = f"escrow_client-{release()}.dist-info/"

@@ -1,9 +1,10 @@
-//! A site of escrow inside a Rust program: safe calls over `libescrow_c.a`, of which `include/escrow.h` tells each.
+//! A site of escrow inside a Rust program: safe calls over the library, of which `include/escrow.h` tells each.
 //!
 //! A [`Site`] answers commands; its log is the caller's. It opens the site over the bytes that it kept, and asks. What an
 //! answer adds to the log is taken by [`Site::take_added`], written and synced, before anybody is told the answer.
 //!
-//! `no_std`, but for `alloc`. To be linked with `libescrow_c.a` and the kit's `liblibc_c.a`.
+//! `no_std`, but for `alloc`. By cargo it is linked with `libescrow_c.so`, which `build.rs` finds; without, name the archive
+//! `libescrow_c.a` and the kit's `liblibc_c.a`.
 #![no_std]
 #![deny(missing_docs)]
 
