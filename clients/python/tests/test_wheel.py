@@ -9,13 +9,14 @@ import importlib.util
 import json
 import os
 import re
+import shutil
 import subprocess
 import sys
 import tempfile
 import unittest
 import zipfile
 
-from programs import PACKAGES, TOP
+from programs import PACKAGES, TOP, SiteTest
 from test_site_readme import examples
 
 HAS_LIBRARY = os.path.exists(os.path.join(TOP, "packed", "libescrow_c.so.gz"))
@@ -116,6 +117,50 @@ class WheelTest(unittest.TestCase):
         self.assertIn("Tag: py3-none-manylinux_2_34_x86_64\n", texts["WHEEL"])
         commands = re.findall(r"^(\w+) = escrow_programs:\1$", texts["entry_points.txt"], re.M)
         self.assertEqual(commands, ["escrow", "escrow_board", "escrow_carrier", "escrow_site"])
+
+
+class RefusedTest(SiteTest):
+    """Where what is packed isn't what this checkout is made of no wheel is made, and it is told what to type."""
+
+    def setUp(self) -> None:
+        super().setUp()
+        for name in os.listdir(TOP):
+            if name != "packed":
+                os.symlink(os.path.join(TOP, name), os.path.join(self.place, name))
+        shutil.copytree(os.path.join(TOP, "packed"), os.path.join(self.place, "packed"), ignore=shutil.ignore_patterns("out", "libescrow_c*"))
+
+    def told(self, *words: str) -> str:
+        """What it tells, with status 1, and nothing made."""
+        words = (sys.executable, os.path.join(self.place, "tools", "wheel"), os.path.join(self.place, "made"), *words)
+        done = subprocess.run(words, capture_output=True, text=True, check=False)
+        self.assertEqual((done.returncode, done.stdout, os.path.exists(os.path.join(self.place, "made"))), (1, "", False))
+        return done.stderr
+
+    def changed(self, name: str, old: bytes, new: bytes) -> None:
+        """Changes a file of packed/."""
+        path = os.path.join(self.place, "packed", name)
+        with open(path, "rb") as file:
+            text = file.read()
+        self.assertEqual(text.count(old), 1)
+        with open(path, "wb") as file:
+            file.write(text.replace(old, new))
+
+    def test_no_library(self) -> None:
+        self.assertEqual(self.told(), "tools/wheel: packed/libescrow_c.so.gz isn't there: tools/pack libescrow_c.so, behind a gate, "
+                                      "packs what it built; --no-library makes a wheel without it\n")
+
+    def test_other_sources(self) -> None:
+        self.changed("escrow.sums", b"\nsources ", b"\nsources 0")
+        self.assertRegex(self.told("--no-library"), "^tools/wheel: packed/escrow.gz was built of other sources .* tools/pack escrow,")
+
+    def test_another_machine(self) -> None:
+        self.changed("escrow_site.sums", b"machine Linux x86_64\n", b"machine Linux aarch64\n")
+        self.assertRegex(self.told("--no-library"), "^tools/wheel: packed/escrow_site.gz is for Linux aarch64, ")
+
+    def test_other_bytes(self) -> None:
+        with open(os.path.join(self.place, "packed", "escrow_site.gz"), "ab") as file:
+            file.write(b"\0")
+        self.assertRegex(self.told("--no-library"), "^tools/wheel: packed/escrow_site.gz hasn't the sum .* `git checkout packed`")
 
 
 @unittest.skipUnless(HAS_PIP, "pip isn't there")
