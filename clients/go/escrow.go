@@ -41,8 +41,8 @@ func (fault Ended) Error() string {
 // ErrStopped is the error of a question that a stop left without its answer: it changed nothing.
 var ErrStopped = errors.New("escrow: the process of the site has ended")
 
-// ErrID is the error of what is no id, and of an id of another world or another site: ask there. Of a world that was settled look in
-// the old folder's log.
+// ErrID is the error of what is no id of this site, or none that the log can tell of: of another world or another site, or of an epoch
+// or number that isn't yet. Of a world that was settled look in the old folder's log.
 var ErrID = errors.New("escrow: no id of a transaction of this site")
 
 type asked struct {
@@ -55,7 +55,7 @@ type Site struct {
 	command    *exec.Cmd
 	world      string // the first digits of the world's name
 	number     string
-	epoch      string
+	epoch      uint64
 	writing    sync.Mutex // who holds it writes lines, and notes each, in the same order
 	pipe       io.WriteCloser
 	waiting    chan asked
@@ -70,7 +70,7 @@ const atOnce = 1 << 16 // so many lines at most are unanswered; one more waits
 var ready = regexp.MustCompile(`\Aready 1 (\d+) \d+\n(\d+) restart -> restarted (\d+) nothing\n\z`)
 var world = regexp.MustCompile(`(?m)^world ([0-9a-f]{8})`)
 var field = regexp.MustCompile(`\A[a-z0-9_]+\z`)
-var id = regexp.MustCompile(`\A(?:([0-9a-f]{8})-(?:(\d+)-)?)?(\d+\.\d+)\z`)
+var id = regexp.MustCompile(`\A(?:([0-9a-f]{8})-(?:(0|[1-9]\d*)-)?)?(0|[1-9]\d*)\.(0|[1-9]\d*)\z`)
 
 // Start starts the program over this folder, and returns once it serves. An error is Ended, or tells why nothing was started.
 func Start(program, folder string) (*Site, error) {
@@ -111,7 +111,8 @@ func greet(site *Site, out *bufio.Reader) (*Site, error) {
 		}
 		return nil, fmt.Errorf("escrow: lines of another version: %q", first+second)
 	}
-	site.epoch, site.number = words[1], words[2]
+	site.epoch, _ = strconv.ParseUint(words[1], 10, 32)
+	site.number = words[2]
 	site.waiting, site.isRead = make(chan asked, atOnce), make(chan struct{})
 	go site.readAnswers(out)
 	return site, nil
@@ -188,20 +189,37 @@ func (site *Site) send(begins uint64, lines func(begun uint64) []string) ([]stri
 	return made, replies, true
 }
 
-// Change makes a transaction of one change, below 0 to lower the field, in one trip, and returns its id, which is known beforehand,
-// since nobody else begins transactions here. An error is Refused, InDoubt, with the id, or ErrStopped, where nothing was asked.
+// Change makes a transaction of one change, below 0 to lower the field, in one trip, and returns its id. An error is Refused, InDoubt,
+// with the id, or ErrStopped, where nothing was asked. A program that dies meanwhile doesn't know the id.
 func (site *Site) Change(name string, change int64) (string, error) {
+	return site.ChangeBefore(name, change, func(string) error { return nil })
+}
+
+// ChangeBefore is Change, with write called ahead of it: it writes the id into the program's own books. The id is known beforehand,
+// since nobody else begins transactions here. Of the last one in the books ask Kept, at the next start. What write fails with is
+// returned: nothing was changed, and the id never comes again. It asks this site nothing; others wait as long as it takes.
+func (site *Site) ChangeBefore(name string, change int64, write func(id string) error) (string, error) {
 	if !field.MatchString(name) {
 		return "", Refused{fmt.Sprintf("%q is no field", name)}
 	}
-	var line string
+	var made string
+	var fault error
+	var panicked any
 	told, isAsked := site.ask(1, func(begun uint64) []string {
-		line = site.epoch + "." + strconv.FormatUint(begun, 10)
+		line := fmt.Sprintf("%d.%d", site.epoch, begun)
+		made = site.world + "-" + site.number + "-" + line
+		fault, panicked = written(write, made)
+		if fault != nil || panicked != nil {
+			return []string{site.number + " begin", site.number + " abort " + line} // so that no other change has this id
+		}
 		escrow := fmt.Sprintf("%s escrow %s %s %d", site.number, line, name, change)
 		return []string{site.number + " begin", escrow, site.number + " commit " + line}
 	})
-	made := site.world + "-" + site.number + "-" + line
 	switch {
+	case panicked != nil:
+		panic(panicked)
+	case fault != nil:
+		return "", fault
 	case !isAsked:
 		return "", ErrStopped
 	case len(told) > 1 && told[1] != "granted": // the commit then changes nothing
@@ -212,14 +230,35 @@ func (site *Site) Change(name string, change int64) (string, error) {
 	return "", InDoubt{made}
 }
 
-// Kept tells whether the commit of this id is in the log. An id tells its world and its site; clients of earlier days told no site,
-// and before that no world. An error is ErrID, or ErrStopped, where nothing was answered.
+func written(write func(id string) error, id string) (fault error, panicked any) {
+	defer func() { panicked = recover() }()
+	return write(id), nil
+}
+
+// Kept tells whether the commit of this id is in the log: where it isn't it never will be. An id tells its world and its site; clients
+// of earlier days told no site, and before that no world. An error is ErrID, or ErrStopped, where nothing was answered.
 func (site *Site) Kept(of string) (bool, error) {
 	words := id.FindStringSubmatch(of)
 	if words == nil || (words[1] != "" && words[1] != site.world) || (words[2] != "" && words[2] != site.number) {
 		return false, fmt.Errorf("%w: %q, and this is %s-%s", ErrID, of, site.world, site.number)
 	}
-	reply, err := site.one("kept " + words[3])
+	epoch, tooLong := strconv.ParseUint(words[3], 10, 32)
+	number, tooMany := strconv.ParseUint(words[4], 10, 32)
+	if tooLong != nil || tooMany != nil {
+		return false, fmt.Errorf("%w: %q", ErrID, of)
+	}
+	site.writing.Lock()
+	isBegun := epoch < site.epoch || epoch == site.epoch && number <= site.begun
+	site.writing.Unlock()
+	if epoch > site.epoch {
+		return false, fmt.Errorf("%w: the epoch of %s is later than any of the log: an older log was put back", ErrID, of)
+	} else if !isBegun {
+		return false, fmt.Errorf("%w: no transaction of %s was begun yet", ErrID, of)
+	}
+	reply, err := site.one(fmt.Sprintf("kept %d.%d", epoch, number))
+	if err == nil && reply != "yes" && reply != "no" {
+		return false, Refused{reply}
+	}
 	return reply == "yes", err
 }
 

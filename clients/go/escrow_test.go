@@ -148,6 +148,41 @@ func TestKills(t *testing.T) {
 	}
 }
 
+func TestIDsAhead(t *testing.T) {
+	program, folder := made(t)
+	site := started(t, program, folder)
+	var books []string
+	write := func(id string) error { books = append(books, id); return nil }
+	full := errors.New("the books are full")
+	if id, err := site.ChangeBefore("stock", -1, func(id string) error { write(id); return full }); id != "" || err != full {
+		t.Error(id, err)
+	}
+	func() {
+		defer func() { recover() }()
+		site.ChangeBefore("stock", -1, func(id string) error { write(id); panic("the books are gone") })
+	}()
+	sold, err := site.ChangeBefore("stock", -1, write)
+	if _, none := site.ChangeBefore("stock", -20000, write); err != nil || none != error(Refused{"refused 7 short 19999"}) {
+		t.Error(err, none)
+	}
+	if err := site.End(); err != nil {
+		t.Error(err)
+	}
+	site = started(t, program, folder)
+	for at, id := range books {
+		isKept, err := site.Kept(id)
+		if err != nil || isKept != (id == sold) || !strings.HasSuffix(id, fmt.Sprintf("-1-1.%d", at+1)) {
+			t.Error(id, isKept, err)
+		}
+	}
+	if lower, _, err := site.Share("stock"); len(books) != 4 || lower != 19999 || err != nil {
+		t.Error(books, lower, err)
+	}
+	if err := site.End(); err != nil {
+		t.Error(err)
+	}
+}
+
 func TestRefusals(t *testing.T) {
 	program, folder := made(t)
 	site := started(t, program, folder)
@@ -165,12 +200,13 @@ func TestRefusals(t *testing.T) {
 		t.Error(id, err)
 	}
 	world, _, _ := strings.Cut(first, "-")
-	for id, isKept := range map[string]bool{first: true, world + "-1.1": true, "1.1": true, world + "-1-1.99": false} {
+	for id, isKept := range map[string]bool{first: true, world + "-1.1": true, "1.1": true, world + "-1-1.2": false} {
 		if told, err := site.Kept(id); told != isKept || err != nil {
 			t.Error(id, told, err)
 		}
 	}
-	for _, id := range []string{world + "-0-1.1", "01234567-1-1.1", "1", "1.1\n1 begin", ""} {
+	for _, id := range []string{world + "-0-1.1", "01234567-1-1.1", "1", "1.1\n1 begin", "", "01.1", "1.4294967296", world + "-1-1.99",
+		world + "-1-2.1", "+1.1"} {
 		if told, err := site.Kept(id); told || !errors.Is(err, ErrID) {
 			t.Error(id, told, err)
 		}

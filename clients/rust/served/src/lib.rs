@@ -4,8 +4,11 @@
 //! A [`Site`] is one process, from its ready line to its end. It is started anew by a new one, and the changes in doubt are asked
 //! of by [`Site::kept`] first: `seller.rs` beside this crate does so. It has no time limits, and needs the standard library alone.
 #![deny(missing_docs)]
+use std::cmp::Ordering;
+use std::convert::Infallible;
 use std::fmt::{Debug, Display, Formatter};
 use std::io::{BufRead, BufReader, Error, Write};
+use std::panic::{catch_unwind, resume_unwind, AssertUnwindSafe};
 use std::process::{Child, ChildStdin, ChildStdout, Command, ExitStatus, Stdio};
 use std::sync::{mpsc::channel, mpsc::Receiver, mpsc::Sender, Mutex};
 use std::thread::{self, JoinHandle};
@@ -15,7 +18,7 @@ pub struct Site {
     child: Child,
     world: String, // the first digits of the world's name
     number: String,
-    epoch: String,
+    epoch: u32,
     input: Option<Mutex<Input>>,
     reader: Option<JoinHandle<Result<(), Fault>>>,
 }
@@ -47,7 +50,7 @@ pub enum Fault {
     Ended(ExitStatus),
     /// This line of the program is none that this client knows.
     Line(String),
-    /// No id, or one of another world or another site: ask there. Of a world that was settled look in the old folder's log.
+    /// No id of this site, or none that the log can tell of, and why: of another world or site, or of an epoch that isn't yet.
     Id(String),
 }
 
@@ -69,6 +72,11 @@ impl Debug for Fault {
 }
 
 impl std::error::Error for Fault {}
+
+/// A whole number as lines spell it.
+fn whole(text: &str) -> Option<u32> {
+    text.parse().ok().filter(|it: &u32| it.to_string() == text)
+}
 
 fn is_field(text: &str) -> bool {
     !text.is_empty() && text.bytes().all(|it| matches!(it, b'a'..=b'z' | b'0'..=b'9' | b'_'))
@@ -100,62 +108,92 @@ impl Site {
         let mut told = String::new();
         let _ = output.read_line(&mut told).and_then(|_| output.read_line(&mut told));
         let words: Vec<String> = told.split_whitespace().map(str::to_string).collect();
-        if !told.ends_with('\n') || words.len() < 8 || words[..2] != ["ready", "1"] || world.is_empty() {
+        let is_ready = told.ends_with('\n') && words.len() >= 8 && words[..2] == ["ready", "1"] && !world.is_empty();
+        let Some(epoch) = is_ready.then(|| whole(&words[2])).flatten() else {
             drop(pipe); // it ends
             let status = child.wait().map_err(Fault::Io)?;
             return Err(if status.success() { Fault::Line(told) } else { Fault::Ended(status) });
-        }
+        };
         let (asked, waiting) = channel();
         let reader = Some(thread::spawn(move || read_answers(output, waiting)));
         let input = Some(Mutex::new(Input { pipe, asked, begun: 0 }));
-        Ok(Site { child, world, number: words[4].clone(), epoch: words[2].clone(), input, reader })
+        Ok(Site { child, world, number: words[4].clone(), epoch, input, reader })
     }
 
-    /// Sends lines that stand together, which `lines` makes of the number of the next transaction; their replies come in order.
-    /// Fewer come where a stop leaves them out.
-    fn ask<const N: usize>(&self, begins: u64, lines: impl FnOnce(u64) -> [String; N]) -> (u64, Vec<String>) {
+    /// Sends lines that stand together, which `lines` makes of the number of the last transaction that begins with them; their
+    /// replies come in order. Fewer come where a stop leaves them out. What `lines` fails with comes through: nothing was sent.
+    fn ask<E>(&self, begins: u64, lines: impl FnOnce(u64) -> Result<Vec<String>, E>) -> Result<(u64, Vec<String>), E> {
         let (teller, replies) = channel();
         let mut input = self.input.as_ref().expect("is there until the end").lock().expect("no holder panics");
+        let lines = lines(input.begun + begins)?;
         input.begun += begins;
-        let (begun, lines) = (input.begun, lines(input.begun));
+        let begun = input.begun;
         lines.iter().for_each(|line| drop(input.asked.send((line.clone(), teller.clone()))));
         let _ = input.pipe.write_all((lines.join("\n") + "\n").as_bytes()); // where it fails the output ends too
         drop((input, teller));
-        (begun, replies.iter().take(N).collect())
+        Ok((begun, replies.iter().take(lines.len()).collect()))
     }
 
-    /// A transaction of one change, below 0 to lower the field, in one trip: its id is known beforehand, since nobody else begins
-    /// transactions here.
+    /// A transaction of one change, below 0 to lower the field, in one trip. A program that dies meanwhile doesn't know its id.
     pub fn change(&self, field: &str, change: i64) -> Change {
-        if !is_field(field) {
-            return Change::Refused(format!("{field:?} is no field"));
+        match self.change_before(field, change, |_| Ok::<(), Infallible>(())) {
+            Ok(told) => told,
+            Err(never) => match never {},
         }
-        let (site, epoch) = (&self.number, &self.epoch);
-        let (begun, told) = self.ask(1, |begun| {
-            let id = format!("{epoch}.{begun}");
-            [format!("{site} begin"), format!("{site} escrow {id} {field} {change}"), format!("{site} commit {id}")]
+    }
+
+    /// As [`Site::change`], with `write` called ahead of it: it writes the id into the program's own books. The id is known
+    /// beforehand, since nobody else begins transactions here. Of the last one in the books ask [`Site::kept`], at the next start.
+    /// What `write` fails with comes through: nothing was changed, and the id never comes again. It asks this site nothing; others
+    /// wait as long as it takes.
+    pub fn change_before<E>(&self, field: &str, change: i64, write: impl FnOnce(&str) -> Result<(), E>) -> Result<Change, E> {
+        if !is_field(field) {
+            return Ok(Change::Refused(format!("{field:?} is no field")));
+        }
+        let (site, epoch, mut id, mut written) = (&self.number, self.epoch, String::new(), None);
+        let asked = self.ask(1, |begun| {
+            let (line, begin) = (format!("{epoch}.{begun}"), format!("{site} begin"));
+            id = format!("{}-{site}-{line}", self.world);
+            let told = catch_unwind(AssertUnwindSafe(|| write(&id)));
+            let lines = match told {
+                Ok(Ok(())) => vec![begin, format!("{site} escrow {line} {field} {change}"), format!("{site} commit {line}")],
+                _ => vec![begin, format!("{site} abort {line}")], // so that no other change has this id
+            };
+            written = Some(told);
+            Ok::<_, Infallible>(lines)
         });
-        let id = format!("{}-{site}-{epoch}.{begun}", self.world);
-        match told.get(1) {
+        written.expect("was called").unwrap_or_else(|panic| resume_unwind(panic))?;
+        let told = asked.map_or(Vec::new(), |(_, told)| told);
+        Ok(match told.get(1) {
             Some(reply) if reply != "granted" => Change::Refused(reply.clone()), // the commit then changes nothing
             _ if told.get(2).is_some_and(|it| it == "committed") => Change::Committed(id),
             _ => Change::InDoubt(id),
-        }
+        })
     }
 
-    /// Whether the commit of this id is in the log; None where a stop came before the answer. An id tells its world and its site;
-    /// clients of earlier days told no site, and before that no world.
+    /// Whether the commit of this id is in the log: where it isn't it never will be. None where a stop came before the answer.
+    /// An id tells its world and its site; clients of earlier days told no site, and before that no world.
     pub fn kept(&self, id: &str) -> Result<Option<bool>, Fault> {
+        let fault = |why: &str| Fault::Id(format!("{id:?}: {why}"));
         let (front, line) = id.rsplit_once('-').unwrap_or(("", id));
         let (world, site) = front.split_once('-').unwrap_or((front, &self.number));
-        if !line.split_once('.').is_some_and(|(epoch, number)| epoch.parse::<u32>().is_ok() && number.parse::<u32>().is_ok()) {
-            return Err(Fault::Id(format!("{id:?} is no id")));
-        } else if !front.is_empty() && world != self.world {
-            return Err(Fault::Id(format!("{id}: this id is of another world: look in the old folder's log")));
+        let numbers = line.split_once('.').and_then(|(epoch, number)| Some((whole(epoch)?, whole(number)?)));
+        let (epoch, number) = numbers.ok_or_else(|| fault("is no id"))?;
+        if !front.is_empty() && world != self.world {
+            return Err(fault("this id is of another world: look in the old folder's log"));
         } else if site != self.number {
-            return Err(Fault::Id(format!("{id}: this id is of site {site}: ask that one")));
+            return Err(fault(&format!("this id is of site {site}: ask that one")));
         }
-        Ok(self.ask(0, |_| [format!("kept {line}")]).1.first().map(|it| it == "yes"))
+        let told = self.ask(0, |begun| match epoch.cmp(&self.epoch) {
+            Ordering::Greater => Err(fault("its epoch is later than any of the log: an older log was put back")),
+            Ordering::Equal if u64::from(number) > begun => Err(fault("no transaction of this id was begun yet")),
+            _ => Ok(vec![format!("kept {epoch}.{number}")]),
+        })?;
+        match told.1.first().map(String::as_str) {
+            None => Ok(None),
+            Some(reply @ ("yes" | "no")) => Ok(Some(reply == "yes")),
+            Some(other) => Err(Fault::Line(other.to_string())),
+        }
     }
 
     /// Between which values the field lies, as `between 17 67`; None where a stop came before the answer.
@@ -170,7 +208,8 @@ impl Site {
 
     fn look(&self, what: &str, field: &str) -> Option<String> {
         let field = if is_field(field) { field } else { "?" }; // one line, whatever was given
-        self.ask(0, |_| [format!("{} {what} {field}", self.number)]).1.pop()
+        let asked = self.ask(0, |_| Ok::<_, Infallible>(vec![format!("{} {what} {field}", self.number)]));
+        asked.map_or(None, |(_, mut told)| told.pop())
     }
 
     fn close(&mut self) -> Result<ExitStatus, Fault> {
