@@ -1,0 +1,12 @@
+pub mod Outside
+pub mod Alike
+pub mod Past
+pub mod Short
+pub mod Moving
+pub mod OneField
+pub mod Canonical
+pub mod AllFields
+pub mod Needed
+pub mod Ordered
+pub mod Formed
+pub mod Sums
