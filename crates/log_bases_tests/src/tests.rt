@@ -12,7 +12,7 @@ ghost use Rattle.log_replay.specs.Standing.{IsStandingFor};
 use check_kit::{STOCK_OF_THREE, STOCK_OF_TWO, add, joined, schema_of};
 use field_bounds::{FieldNo, Kind, Schema, SiteNo};
 use kept_records::{Cursor, Summary, read_records};
-use log_bases::stand_on;
+use log_bases::{is_balanced, stand_on};
 use log_replay::{Replayed, Standing, replay};
 use std::alloc::{AllocError, Global};
 
@@ -275,6 +275,16 @@ fn stood(alloc: Global, header: &str, site: SiteNo, line: &str) -> Option<Vec<u6
     }
 }
 
+/// Whether a base is balanced, or None where memory was refused.
+fn balances(alloc: Global, header: &str, site: SiteNo, line: &str) -> Option<bool> {
+    let schema = schema_of(alloc, header)?;
+    if site.0 >= schema.sites() {
+        return None;
+    }
+    let base = base_of(alloc, line)?;
+    Some(is_balanced(&schema, site, &base))
+}
+
 /// What a lawful log stands for, or None where memory was refused.
 fn replayed(alloc: Global, header: &str, site: SiteNo, log: &str) -> Option<Vec<u64>> {
     let schema = schema_of(alloc, header)?;
@@ -293,6 +303,8 @@ fn balanced_bases_stand(rt: HostRuntime) {
     for (header, site, line, numbers) in &STANDS {
         let told = stood(rt.alloc(), *header, SiteNo(*site), *line).expect(&rt, *line);
         assert_eq!(rt; told.as_slice(), *numbers, "{line}");
+        let balanced = balances(rt.alloc(), *header, SiteNo(*site), *line).expect(&rt, *line);
+        assert!(rt; balanced, "{line}");
     }
 }
 
@@ -301,6 +313,8 @@ fn other_bases_have_no_past(rt: HostRuntime) {
     for (header, site, line) in &NONE {
         let told = stood(rt.alloc(), *header, SiteNo(*site), *line).expect(&rt, *line);
         assert_eq!(rt; told.len(), 0, "{line}");
+        let balanced = balances(rt.alloc(), *header, SiteNo(*site), *line).expect(&rt, *line);
+        assert!(rt; !balanced, "{line}");
     }
 }
 
