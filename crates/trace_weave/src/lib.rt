@@ -10,5 +10,5 @@ mod weaving;
 pub use fault::WeaveFault;
 pub use laws::weaves_are_sound;
 pub use order::weave_order;
-pub use walk::WovenEntries;
-pub use weaving::weave;
+pub use walk::{WovenEntries, upcoming};
+pub use weaving::{may_stand, weave};

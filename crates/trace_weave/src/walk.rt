@@ -9,8 +9,12 @@ use field_bounds::Entry;
 use std::alloc::{AllocError, Global};
 use std::marker::Model;
 
-/// The next entry of the history of this place, of which so many were given.
-fn upcoming(histories: &[Vec<Entry>], counts: &[usize], site: usize) -> Option<Entry>
+/// The next entry of the history of this place, where `counts` has how many entries of each were
+/// taken: the oldest one that wasn't. Give one count for each history.
+///
+/// None where none is left, or no history has that place (`next`). So where there is one, its place
+/// has a count (`inside`), which may be counted up (`room`). Costs one look.
+pub fn upcoming(histories: &[Vec<Entry>], counts: &[usize], site: usize) -> Option<Entry>
     requires { length counts.now ≡ length histories.now }
     ensures next { result ≡ upcoming (lists_of histories.now) counts.now site }
     ensures inside { IfSome result (λ _. site < length counts.now) }
