@@ -32,9 +32,9 @@ pub enum AuditEnd {
     BadEntry,
 }
 
-// A rule in lower case.
-fn rule_word(rule: Rule) -> &'static str
-    ensures { result.now ≡ rule_text rule }
+/// The word that tells a rule in a verdict's line, its name in lower case.
+pub fn rule_word(rule: Rule) -> &'static str
+    ensures word { result.now ≡ rule_text rule }
 {
     match rule {
         Rule::Site => "site",
