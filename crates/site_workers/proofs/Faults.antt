@@ -1,6 +1,6 @@
 -- What faults say, from what was found.
-use Rattle.std.proofs.Common.{◌≡◌, ◌≢◌, ℕ, ◌+◌, ◌<◌, ◌≤◌, ◌⊎◌, List, [], ◌∷◌, length, get_or, reverse, refl, sym, ap, subst, ◌∙◌, inl, inr, ⊎_elim, arith, zero, suc, true, Some}
-use Rattle.std.specs.Prelude.{Result, Ok, Err, IfErr, IfSome}
+use Rattle.std.proofs.Common.{◌≡◌, ◌≢◌, ℕ, ◌+◌, ◌<◌, ◌≤◌, List, [], ◌∷◌, length, get_or, reverse, refl, sym, ap, subst, ◌∙◌, inl, inr, ⊎_elim, arith, zero, suc, true, Some}
+use Rattle.std.specs.Prelude.{IfSome}
 use Rattle.std.proofs.lemmas.Bool.{cases_lt}
 use Rattle.std.proofs.lemmas.List.{get_or_past, reverse-reverse}
 use Rattle.std.proofs.lemmas.Option.{same_Some}
@@ -26,12 +26,13 @@ use Rattle.site_desk.specs.declared.locked.Receipt.{Receipt}
 use Rattle.work_faults.specs.declared.receipts.ReceiptFault.{ReceiptFault}
 use Rattle.work_faults.specs.declared.receipts.ReceiptFault.TheVariants as receipt_faults
 use Rattle.site_desk.specs.ReceiptFaults.{TellsReceipts}
-use Rattle.site_workers.specs.declared.inbox.Letter.{Letter}
 use Rattle.work_faults.specs.declared.workers.WorkFault.{WorkFault}
 use Rattle.work_faults.specs.declared.workers.WorkFault.TheVariants.{GateTurns, WentBack, Passes, Receipts, Foreign, Lost, NoMemory}
+use Rattle.site_workers.specs.declared.site_fault.SiteFault.{SiteFault}
+use Rattle.site_workers.specs.declared.site_fault.SiteFault.TheVariants.{Worker, Courier, Close}
 use Rattle.site_workers.specs.Scripts.{histories_of, history_at, HasAccept, AreWorked, NoneForeign, ScriptsFit}
 use Rattle.site_workers.specs.Crossing.{IsLowestForeign, IsLowestLost, Lacks}
-use Rattle.site_workers.specs.Faults.{fault_of_call, fault_of_courier, fault_of_receipts, IsCourierFault, TellsShort, Differs, IsFaultAt, IsSiteFault, ShowsForeign, ShowsLost, TellsForeign, TellsLost, TellsDiffers, TellsTurned, TurnsNone, site_named}
+use Rattle.site_workers.specs.Faults.{fault_of_call, fault_of_receipts, fault_of, IsCourierFault, Differs, IsFaultAt, IsFaultOf, IsSiteFault, ShowsForeign, ShowsLost, TellsForeign, TellsLost, TellsDiffers, TellsTurned, TurnsNone, site_named}
 use Rattle.site_workers.proofs.Scripts.{of_reversed, on_fresh}
 use Rattle.site_workers.proofs.Teams.{worked_count}
 
@@ -89,6 +90,42 @@ differs_fault v schema site Turns rs fault w is of number freshly run own told =
     }))
 
 -- ---- of some site
+
+pub of_site : (schema : SchemaValue) (Turns : SiteNo → ℕ → Type 0) (site : SiteNo) (w : WorkFault) → site.0 < schema.sites
+    → IsFaultAt schema site Turns w → IsSiteFault schema Turns w
+of_site schema Turns site GateTurns below c = (site, below, c.0, c.1)
+of_site schema Turns site (WentBack named n) below c = subst (λ (s : SiteNo). s.0 < schema.sites) (sym c) below
+of_site schema Turns site (Passes named) below c = subst (λ (s : SiteNo). s.0 < schema.sites) (sym c) below
+of_site schema Turns site (Receipts fault) below c = record { site = site; known = below; differs = c }
+of_site schema Turns site (Foreign named) below c = absurd c
+of_site schema Turns site (Lost named) below c = absurd c
+of_site schema Turns site NoMemory below c = tt
+
+courier_at : (schema : SchemaValue) (Turns : SiteNo → ℕ → Type 0) (site : SiteNo) (w : WorkFault) → IsCourierFault site w
+    → IsFaultAt schema site Turns w
+courier_at schema Turns site GateTurns c = absurd c
+courier_at schema Turns site (WentBack named n) c = c
+courier_at schema Turns site (Passes named) c = absurd c
+courier_at schema Turns site (Receipts fault) c = absurd c
+courier_at schema Turns site (Foreign named) c = absurd c
+courier_at schema Turns site (Lost named) c = absurd c
+courier_at schema Turns site NoMemory c = tt
+
+close_at : (schema : SchemaValue) (Turns : SiteNo → ℕ → Type 0) (site : SiteNo) (w : WorkFault) → IsFaultAt schema site TurnsNone w
+    → IsFaultAt schema site Turns w
+close_at schema Turns site GateTurns c = absurd c.1
+close_at schema Turns site (WentBack named n) c = c
+close_at schema Turns site (Passes named) c = c
+close_at schema Turns site (Receipts fault) c = c
+close_at schema Turns site (Foreign named) c = absurd c
+close_at schema Turns site (Lost named) c = absurd c
+close_at schema Turns site NoMemory c = tt
+
+pub fault_at : (schema : SchemaValue) (Turns : SiteNo → ℕ → Type 0) (site : SiteNo) (script : List Command) (f : SiteFault)
+    → IsFaultOf schema Turns site script f → IsFaultAt schema site Turns (fault_of f)
+fault_at schema Turns site script (Worker w) c = c
+fault_at schema Turns site script (Courier w rs) c = courier_at schema Turns site w c.0
+fault_at schema Turns site script (Close w rs) c = close_at schema Turns site w c.0
 
 pub no_foreign_told : (schema : SchemaValue) (scripts : List (List Command)) (Turns : SiteNo → ℕ → Type 0) (w : WorkFault)
     → IsSiteFault schema Turns w

@@ -1,17 +1,17 @@
 -- The threads of all sites, xs they are started and joined.
-use Rattle.std.proofs.Common.{◌≡◌, ℕ, ◌+◌, ◌<◌, ◌≤◌, List, [], ◌∷◌, ◌++◌, length, reverse, refl, sym, ap, subst, ◌∙◌, arith, append-nil, append_assoc, Option, Some, None, length-append}
+use Rattle.std.proofs.Common.{◌≡◌, ℕ, ◌+◌, ◌<◌, List, [], ◌∷◌, ◌++◌, length, reverse, refl, sym, ap, subst, ◌∙◌, arith, append-nil, append_assoc, Option, Some, None, length-append}
 use Rattle.std.proofs.lemmas.List.{reverse-append, length-map, map-append}
 use Rattle.std.specs.Global.{Vec}
 use Rattle.field_bounds.specs.declared.id.SiteNo.{SiteNo}
 use Rattle.field_bounds.specs.declared.entry.Command.{Command}
 use Rattle.field_bounds.specs.declared.entry.Entry.{Entry}
 use Rattle.field_bounds.specs.Schema.{SchemaValue}
-use Rattle.field_bounds.specs.Limits.{IsSchema, max_sites}
-use Rattle.std.specs.Prelude.{Result, Ok, Err, IfSome, IfNone}
-use Rattle.work_faults.specs.declared.workers.WorkFault.{WorkFault}
+use Rattle.std.specs.Prelude.{Result, Err, IfSome, IfNone}
 use Rattle.work_faults.specs.declared.workers.WorkFault.TheVariants.{NoMemory}
+use Rattle.site_workers.specs.declared.site_fault.SiteFault.{SiteFault}
+use Rattle.site_workers.specs.declared.site_fault.SiteFault.TheVariants.{Worker}
 use Rattle.site_workers.specs.Inboxes.{site_no}
-use Rattle.site_workers.specs.Scripts.{scripts_of, histories_of, HasNoAccept, AreSpared, ScriptsFit, AreWorked, NoneForeign, NoneLost, AllWorked}
+use Rattle.site_workers.specs.Scripts.{scripts_of, HasNoAccept, AreSpared, ScriptsFit, AreWorked, NoneForeign, NoneLost, AllWorked}
 use Rattle.site_workers.specs.Jobs.{Job, FitsJob, AreJobs, AreStarted, AreJoined, IsAnswer, AreAnswers}
 
 one_script_more : (old new : List (Vec Command)) (v : Vec Command) → old ≡ new ++ v ∷ [] → scripts_of old ≡ scripts_of new ++ v.items ∷ []
@@ -74,7 +74,7 @@ joins schema gate Turns all (v ∷ left) jobs none st = absurd (omega arith)
 -- ---- answers
 
 answers_more : (schema : SchemaValue) (Turns : SiteNo → ℕ → Type 0) (n : ℕ) (ss : List (List Command))
-    (xs : List (Result (Vec Entry) WorkFault)) (s : List Command) (a : Result (Vec Entry) WorkFault) → AreAnswers schema Turns n ss xs
+    (xs : List (Result (Vec Entry) SiteFault)) (s : List Command) (a : Result (Vec Entry) SiteFault) → AreAnswers schema Turns n ss xs
     → IsAnswer schema Turns (site_no (n + length ss)) s a → AreAnswers schema Turns n (ss ++ s ∷ []) (xs ++ a ∷ [])
 answers_more schema Turns n [] [] s a all one =
     let e : n + 0 ≡ n = omega arith in (subst (λ (k : ℕ). IsAnswer schema Turns (site_no k) s a) e one, tt)
@@ -85,13 +85,13 @@ answers_more schema Turns n (r ∷ ss) (b ∷ xs) s a all one =
     (all.0, answers_more schema Turns (n + 1) ss xs s a all.1 (subst (λ (k : ℕ). IsAnswer schema Turns (site_no k) s a) e one))
 
 refused_answer : (schema : SchemaValue) (Turns : SiteNo → ℕ → Type 0) (site : SiteNo) (script : List Command)
-    (a : Result (Vec Entry) WorkFault) → a ≡ Err NoMemory → IsAnswer schema Turns site script a
+    (a : Result (Vec Entry) SiteFault) → a ≡ Err (Worker NoMemory) → IsAnswer schema Turns site script a
 refused_answer schema Turns site script a is =
-    subst (λ (x : Result (Vec Entry) WorkFault). IsAnswer schema Turns site script x) (sym is) (record { worked = tt; fault = tt })
+    subst (λ (x : Result (Vec Entry) SiteFault). IsAnswer schema Turns site script x) (sym is) (record { worked = tt; fault = tt })
 
 module _ {G : Type 0} (T : G → SiteNo → ℕ → Type 0) (schema : SchemaValue) (gate : G) where
-  job_answer : (n : ℕ) (s : List Command) (o : Option (Job G)) (a : Result (Vec Entry) WorkFault) → FitsJob schema gate n s o
-      → IfSome o (λ (j : Job G). IsAnswer j.schema (T j.gate) j.site j.script a) → IfNone o (a ≡ Err NoMemory)
+  job_answer : (n : ℕ) (s : List Command) (o : Option (Job G)) (a : Result (Vec Entry) SiteFault) → FitsJob schema gate n s o
+      → IfSome o (λ (j : Job G). IsAnswer j.schema (T j.gate) j.site j.script a) → IfNone o (a ≡ Err (Worker NoMemory))
       → IsAnswer schema (T gate) (site_no n) s a
   job_answer n s None a fits made refused = refused_answer schema (T gate) (site_no n) s a refused
   job_answer n s (Some j) a fits made refused =
@@ -103,10 +103,10 @@ module _ {G : Type 0} (T : G → SiteNo → ℕ → Type 0) (schema : SchemaValu
       subst (λ (x : List Command). IsAnswer schema (T j.gate) (site_no n) x a) fits.2 here in
       subst (λ (x : G). IsAnswer schema (T x) (site_no n) s a) fits.3 whole
 
-  joins_next : (all : List (List Command)) (new : List (Option (Job G))) (o : Option (Job G)) (xs : List (Result (Vec Entry) WorkFault))
-      (a : Result (Vec Entry) WorkFault) (done left : List (List Command)) → all ≡ done ++ left → AreAnswers schema (T gate) 0 done xs
+  joins_next : (all : List (List Command)) (new : List (Option (Job G))) (o : Option (Job G)) (xs : List (Result (Vec Entry) SiteFault))
+      (a : Result (Vec Entry) SiteFault) (done left : List (List Command)) → all ≡ done ++ left → AreAnswers schema (T gate) 0 done xs
       → AreJobs schema gate (length done) left (o ∷ reverse new)
-      → IfSome o (λ (j : Job G). IsAnswer j.schema (T j.gate) j.site j.script a) → IfNone o (a ≡ Err NoMemory)
+      → IfSome o (λ (j : Job G). IsAnswer j.schema (T j.gate) j.site j.script a) → IfNone o (a ≡ Err (Worker NoMemory))
       → AreJoined schema gate (T gate) all new (xs ++ a ∷ [])
   joins_next all new o xs a done [] split answered running made refused = absurd running
   joins_next all new o xs a done (s ∷ ss) split answered running made refused =
@@ -122,17 +122,17 @@ module _ {G : Type 0} (T : G → SiteNo → ℕ → Type 0) (schema : SchemaValu
       }
 
   pub joins_more : (all : List (List Command)) (old new : List (Option (Job G))) (o : Option (Job G))
-      (xs ys : List (Result (Vec Entry) WorkFault)) (a : Result (Vec Entry) WorkFault) → old ≡ new ++ o ∷ [] → ys ≡ xs ++ a ∷ []
-      → IfSome o (λ (j : Job G). IsAnswer j.schema (T j.gate) j.site j.script a) → IfNone o (a ≡ Err NoMemory)
+      (xs ys : List (Result (Vec Entry) SiteFault)) (a : Result (Vec Entry) SiteFault) → old ≡ new ++ o ∷ [] → ys ≡ xs ++ a ∷ []
+      → IfSome o (λ (j : Job G). IsAnswer j.schema (T j.gate) j.site j.script a) → IfNone o (a ≡ Err (Worker NoMemory))
       → AreJoined schema gate (T gate) all old xs → AreJoined schema gate (T gate) all new ys
   joins_more all old new o xs ys a popped pushed made refused jn =
       let turned : reverse old ≡ o ∷ reverse new = ap (λ (l : List (Option (Job G))). reverse l) popped ∙ reverse-append new (o ∷ []) in
       let running : AreJobs schema gate (length jn.done) jn.left (o ∷ reverse new) =
       subst (λ (l : List (Option (Job G))). AreJobs schema gate (length jn.done) jn.left l) turned jn.running in
-      subst (λ (l : List (Result (Vec Entry) WorkFault)). AreJoined schema gate (T gate) all new l) (sym pushed)
+      subst (λ (l : List (Result (Vec Entry) SiteFault)). AreJoined schema gate (T gate) all new l) (sym pushed)
       (joins_next all new o xs a jn.done jn.left jn.split jn.answered running made refused)
 
-  pub joined_all : (all : List (List Command)) (jobs : List (Option (Job G))) (xs : List (Result (Vec Entry) WorkFault))
+  pub joined_all : (all : List (List Command)) (jobs : List (Option (Job G))) (xs : List (Result (Vec Entry) SiteFault))
       → length jobs ≡ 0 → AreJoined schema gate (T gate) all jobs xs → AreAnswers schema (T gate) 0 all xs
   joined_all all (j ∷ jobs) xs none jn = absurd (omega arith)
   joined_all all [] xs none jn = ends jn.left jn.running jn.split
@@ -163,13 +163,3 @@ fits_job {G} schema gate n script o j is a b c d =
 pub fits_none : {G : Type 0} (schema : SchemaValue) (gate : G) (n : ℕ) (script : List Command) (o : Option (Job G)) → o ≡ None
     → FitsJob schema gate n script o
 fits_none {G} schema gate n script o is = subst (λ (x : Option (Job G)). FitsJob schema gate n script x) (sym is) tt
-
--- there are xs many histories xs sites
-pub few_histories : (schema : SchemaValue) (ss : List (List Command)) (vs : List (Vec Entry)) → IsSchema schema → ScriptsFit schema ss
-    → AreWorked schema 0 ss (histories_of vs) → length vs ≤ 65536
-few_histories schema ss vs good fit worked =
-    let count : length (histories_of vs) ≡ length ss = worked_count schema 0 ss (histories_of vs) worked in
-    let same : length (histories_of vs) ≡ length vs = length-map vs (λ (v : Vec Entry). v.items) in
-    let few : schema.sites ≤ max_sites = good.few_sites in
-    let limit : max_sites ≡ 64 = refl in
-    omega (arith, count, same, fit.0, few, limit)

@@ -1,5 +1,5 @@
 -- What a fault of workers says (this project). A history has the oldest entry first.
-use Rattle.std.specs.Prelude.{◌≡◌, ◌≢◌, ℕ, ◌+◌, ◌<◌, List, length, reverse, Option, Some, None, Result, IfOk, IfErr}
+use Rattle.std.specs.Prelude.{◌≡◌, ◌≢◌, ℕ, ◌+◌, ◌<◌, ◌++◌, List, length, reverse, Option, Some, None, Result, IfOk, IfErr}
 use Rattle.std.specs.Global.{Vec}
 use Rattle.field_bounds.specs.declared.id.SiteNo.{SiteNo}
 use Rattle.field_bounds.specs.declared.entry.Command.{Command}
@@ -17,8 +17,10 @@ use Rattle.site_desk.specs.ReceiptFaults.{TellsReceipts}
 use Rattle.work_faults.specs.declared.workers.WorkFault.{WorkFault}
 use Rattle.work_faults.specs.declared.workers.WorkFault.TheVariants.{GateTurns, WentBack, Passes, Receipts, Foreign, Lost, NoMemory}
 use Rattle.site_workers.specs.declared.inbox.Letter.{Letter}
-use Rattle.site_workers.specs.Carried.{Carries, StopsShort}
-use Rattle.site_workers.specs.Scripts.{AreWorked, NoneForeign}
+use Rattle.site_workers.specs.declared.site_fault.SiteFault.{SiteFault}
+use Rattle.site_workers.specs.declared.site_fault.SiteFault.TheVariants.{Worker, Courier, Close}
+use Rattle.site_workers.specs.Carried.{commands_of, Carries, StopsShort}
+use Rattle.site_workers.specs.Scripts.{AreAccepts, AreWorked, NoneForeign}
 use Rattle.site_workers.specs.Crossing.{IsLowestForeign, IsLowestLost}
 
 -- ---- one site
@@ -81,6 +83,35 @@ IsFaultAt schema site Turns (Receipts fault) = Differs schema site fault
 IsFaultAt schema site Turns (Foreign named) = ⊥
 IsFaultAt schema site Turns (Lost named) = ⊥
 IsFaultAt schema site Turns NoMemory = Unit {0}
+
+-- ---- why a site has no history
+
+-- The fault, of whichever thread.
+abbrev pub fault_of : SiteFault → WorkFault
+fault_of (Worker fault) = fault
+fault_of (Courier fault receipts) = fault
+fault_of (Close fault receipts) = fault
+
+-- Receipts of a worker, whose commands are the script, whole and in order, and behind them those of a courier, of accepts.
+pub record AreOfBoth (script : List Command) (receipts : List Receipt) : Type 0 where
+  pub worker : List Receipt
+  pub courier : List Receipt
+  pub parts : receipts ≡ worker ++ courier
+  pub calls : commands_of worker ≡ script
+  pub accepts : AreAccepts (commands_of courier)
+
+-- Why a site has no history for its script. Its worker's fault goes first: its courier's comes with receipts of the whole
+-- script, that of the close with the courier's besides.
+abbrev pub IsFaultOf : SchemaValue → (SiteNo → ℕ → Type 0) → SiteNo → List Command → SiteFault → Type 0
+IsFaultOf schema Turns site script (Worker fault) = IsFaultAt schema site Turns fault
+IsFaultOf schema Turns site script (Courier fault receipts) = IsCourierFault site fault × (commands_of receipts.items ≡ script)
+IsFaultOf schema Turns site script (Close fault receipts) = IsFaultAt schema site TurnsNone fault × AreOfBoth script receipts.items
+
+-- Want of memory for what comes behind these receipts of a worker.
+abbrev pub IsWantBehind : List Receipt → SiteFault → Type 0
+IsWantBehind own (Worker fault) = ⊥
+IsWantBehind own (Courier fault receipts) = (fault ≡ NoMemory) × (receipts.items ≡ own)
+IsWantBehind own (Close fault receipts) = ⊥
 
 -- ---- all sites
 

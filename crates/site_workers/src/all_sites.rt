@@ -5,17 +5,19 @@ ghost use Rattle.crossbeam_channel.specs.Claims.{view};
 ghost use Rattle.crossbeam_channel.specs.Ends.{sends_on};
 ghost use Rattle.field_bounds.specs.declared.entry.Command.{Command as CommandSeen};
 ghost use Rattle.field_bounds.specs.Schema.{SchemaValue};
-ghost use Rattle.site_workers.specs.Jobs.{AreJoined, AreAnswers, IsAnswer, lowest_fault, answers_of};
-ghost use Rattle.site_workers.specs.Faults.{IsSiteFault, site_named, TellsForeign, TellsLost, TellsDiffers, TellsTurned};
+ghost use Rattle.site_workers.specs.Jobs.{AreJoined, AreAnswers, IsAnswer, TellsFirst};
+ghost use Rattle.site_workers.specs.Faults.{site_named, TellsForeign, TellsLost, TellsDiffers, TellsTurned};
+ghost use Rattle.site_workers.specs.declared.site_fault.SiteFault.TheVariants.{Worker};
 ghost use Rattle.work_faults.specs.declared.workers.WorkFault.TheVariants.{NoMemory};
 ghost use Rattle.site_workers.specs.Posts.{AreHired, AreOpened, HavePosts};
-ghost use Rattle.site_workers.specs.Scripts.{scripts_of, histories_of, HasNoAccept, ScriptsFit, AreWorked, AllWorked};
+ghost use Rattle.site_workers.specs.Scripts.{scripts_of, histories_of, HasNoAccept, ScriptsFit, AllWorked};
 
-use crate::crossing::{foreign, lost};
+use crate::gathering::gather;
 use crate::inbox::open_inbox;
 use crate::one_site::{Seat, run_site};
 use crate::post::{Mail, Post, Spare, end_for};
 use crate::running::{Answer, Running, Task};
+use crate::site_fault::SiteFault;
 use field_bounds::{Command, Entry, Schema, SiteNo};
 use site_desk::Gate;
 use std::alloc::{AllocError, Global};
@@ -102,11 +104,11 @@ fn seat_of(
 fn answer_of<'x, R: Threads, G: Gate>(rt: &'x R, handle: Option<Running<'x, G>>) -> Answer
     ensures made { IfSome handle.entry (λ job.
         IsAnswer job.schema (G.turns job.gate) job.site job.script result) }
-    ensures refused { IfNone handle.entry (result ≡ Err NoMemory) }
+    ensures refused { IfNone handle.entry (result ≡ Err (Worker NoMemory)) }
 {
     match handle {
         Some(handle) => handle.join(rt),
-        None => Err(WorkFault::NoMemory),
+        None => Err(SiteFault::Worker(WorkFault::NoMemory)),
     }
 }
 
@@ -129,38 +131,6 @@ fn join_all<'x, R: Threads, G: Gate>(
     Ok(answers)
 }
 
-/// The fault of the lowest site that has one. The answers are in order of site.
-fn lowest_fault(answers: &[Answer]) -> Option<WorkFault>
-    ensures value { result ≡ lowest_fault answers.now }
-{
-    for answer in answers {
-        match answer {
-            Ok(_) => {}
-            Err(fault) => return Some(*fault),
-        }
-    }
-    None
-}
-
-/// The histories of all sites. Of several faults the one of the lowest site is answered.
-fn gather(alloc: Global, answers: Vec<Answer>) -> Result<Vec<Vec<Entry>>, WorkFault>
-    ensures lowest { IfSome (lowest_fault answers.items) (λ fault. result ≡ Err fault) }
-    ensures memory { IfNone (lowest_fault answers.items)
-        (IfErr result (λ fault. fault ≡ NoMemory)) }
-    ensures ok { IfOk result (λ histories. answers.items ≡ answers_of histories.items) }
-{
-    if let Some(fault) = lowest_fault(answers.as_slice()) {
-        return Err(fault);
-    }
-    let mut answers = answers;
-    let mut histories = Vec::with_capacity(alloc, answers.len())?;
-    while let Some(answer) = answers.pop() {
-        histories.push(answer?)?;
-    }
-    histories.reverse();
-    Ok(histories)
-}
-
 /// Tells all couriers that the workers which couldn't be made put no more. The threads are in order
 /// of site, the last of which is the lowest site's.
 ///
@@ -179,7 +149,7 @@ fn end_for_missing<'x, R: Wait, G: Gate>(
     }
 }
 
-/// One thread for each site; their histories, in order of site.
+/// One thread for each site; what they answer, in order of site.
 fn run_threads<'x, R: Threads + Wait + Sync, G: Gate>(
     rt: &'x R,
     alloc: Global,
@@ -189,21 +159,20 @@ fn run_threads<'x, R: Threads + Wait + Sync, G: Gate>(
     mails: Vec<Mail>,
     spares: Vec<Spare>,
     gate: &'x G,
-) -> Result<Vec<Vec<Entry>>, WorkFault>
+) -> Result<Vec<Answer>, WorkFault>
     requires fit { ScriptsFit schema.now (scripts_of scripts.items) }
-    ensures worked { IfOk result (λ hs. AreWorked schema.now 0 (scripts_of scripts.items)
-        (histories_of hs.items)) }
-    ensures fault { IfErr result (IsSiteFault schema.now (G.turns gate.now)) }
+    ensures answers { IfOk result (λ answers. AreAnswers schema.now (G.turns gate.now) 0
+        (scripts_of scripts.items) answers.items) }
+    ensures fault { IfErr result (λ fault. fault ≡ NoMemory) }
 {
     thread::scope(
         thread::scope_env(),
         rt,
-        move |scope| -> Result<Vec<Vec<Entry>>, WorkFault>
+        move |scope| -> Result<Vec<Answer>, WorkFault>
             requires fit { ScriptsFit schema.now (scripts_of scripts.items) }
-            ensures worked { IfOk result (λ hs. AreWorked schema.entry.now 0
-                (scripts_of scripts.items) (histories_of hs.items)) }
-            ensures fault { IfErr result (IsSiteFault schema.entry.now
-                (G.turns gate.entry.now)) }
+            ensures answers { IfOk result (λ answers. AreAnswers schema.entry.now
+                (G.turns gate.entry.now) 0 (scripts_of scripts.items) answers.items) }
+            ensures fault { IfErr result (λ fault. fault ≡ NoMemory) }
         {
             let mut left = scripts;
             let mut posts = posts;
@@ -240,9 +209,39 @@ fn run_threads<'x, R: Threads + Wait + Sync, G: Gate>(
             }
             end_for_missing(rt, schema.sites(), handles.as_slice(), &mut spares);
             drop(spares);
-            gather(alloc, join_all(rt, alloc, handles)?)
+            join_all(rt, alloc, handles)
         },
     )
+}
+
+/// Runs each script at its site, all at the same time, and takes each statement that one site
+/// issues to its receiver, which accepts it. Answers what each site answered, in order of site: its
+/// history, with its oldest entry first, or why it has none. What goes from site to site isn't
+/// looked at: `gather` does that, and tells one fault of several.
+///
+/// A history is a run of owed replies on the fresh base; its commands without its accepts are its
+/// script, whole and in order; its entries are exactly the receipts of its worker and its courier,
+/// each once. A fault of a site is its own, and names that site where it names one; its courier's
+/// comes only with the receipts of all its worker's calls.
+///
+/// Give one script for each site, with no accept in them: `scripts_fit` tests it. The error is want of
+/// memory for what all sites share. Costs what `run_workers` does, but for the statements.
+///
+/// Source: as `run_workers`.
+pub fn run_sites<'x, R: Threads + Wait + Sync, G: Gate>(
+    rt: &'x R,
+    alloc: Global,
+    schema: &'x Schema,
+    scripts: Vec<Vec<Command>>,
+    gate: &'x G,
+) -> Result<Vec<Answer>, WorkFault>
+    requires fit { ScriptsFit schema.now (scripts_of scripts.items) }
+    ensures answers { IfOk result (λ answers. AreAnswers schema.now (G.turns gate.now) 0
+        (scripts_of scripts.items) answers.items) }
+    ensures fault { IfErr result (λ fault. fault ≡ NoMemory) }
+{
+    let (posts, mails, spares) = open_all(alloc, schema.sites())?;
+    run_threads(rt, alloc, schema, scripts, posts, mails, spares, gate)
 }
 
 /// Runs each script at its site, all at the same time, and takes each statement that one site
@@ -257,9 +256,10 @@ fn run_threads<'x, R: Threads + Wait + Sync, G: Gate>(
 /// issues is accepted in its receiver's history.
 ///
 /// Give one script for each site, with no accept in them: `scripts_fit` tests it. Of several faults
-/// the one of the lowest site is answered, the worker's before the courier's: `GateTurns`,
+/// the one of the lowest site is answered, the worker's before the courier's (`first`): `GateTurns`,
 /// `WentBack`, `Passes`, `Receipts`, `NoMemory`. Where there is none, `Foreign` and then `Lost`
-/// name the lowest site whose history shows it.
+/// name the lowest site whose history shows it. It is `gather` over `run_sites`, which hands out the
+/// faults of all sites.
 ///
 /// Costs two threads a site, an inbox of 1,024 letters for each, memory for the histories twice,
 /// for their receipts and for the statements, and time in proportion to the scripts.
@@ -276,6 +276,11 @@ pub fn run_workers<'x, R: Threads + Wait + Sync, G: Gate>(
     requires fit { ScriptsFit schema.now (scripts_of scripts.items) }
     ensures ok { IfOk result (λ hs. AllWorked schema.now (scripts_of scripts.items)
         (histories_of hs.items)) }
+
+    // Of answers that these sites may give, the fault is that of the lowest site that has one, where
+    // it is none of those below, and no want of memory.
+    ensures first { IfErr result (TellsFirst schema.now (G.turns gate.now)
+        (scripts_of scripts.items)) }
 
     // Foreign names the lowest site of such histories that accepts a statement which wasn't issued.
     ensures foreign { IfErr result (TellsForeign schema.now (scripts_of scripts.items)) }
@@ -295,15 +300,7 @@ pub fn run_workers<'x, R: Threads + Wait + Sync, G: Gate>(
     ensures site { IfErr result (λ fault. IfSome (site_named fault)
         (λ site. site.0 < schema.now.sites)) }
 {
-    let (posts, mails, spares) = open_all(alloc, schema.sites())?;
-    let histories = run_threads(rt, alloc, schema, scripts, posts, mails, spares, gate)?;
-    let strange = foreign(alloc, histories.as_slice())?;
-    if let Some(site) = strange {
-        return Err(WorkFault::Foreign { site });
-    }
-    let lacking = lost(alloc, histories.as_slice())?;
-    if let Some(site) = lacking {
-        return Err(WorkFault::Lost { site });
-    }
-    Ok(histories)
+    let _sites = schema.sites();
+    let answers = run_sites(rt, alloc, schema, scripts, gate)?;
+    gather(alloc, answers)
 }

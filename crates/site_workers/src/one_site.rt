@@ -5,13 +5,16 @@ ghost use Rattle.crossbeam_channel.specs.Claims.{view, IsSeatAt};
 ghost use Rattle.crossbeam_channel.specs.Ends.{sends_on, receives_on};
 ghost use Rattle.work_faults.specs.declared.workers.WorkFault.TheVariants.{NoMemory};
 ghost use Rattle.site_workers.specs.Carried.{commands_of};
-ghost use Rattle.site_workers.specs.Faults.{fault_of_courier, IsCarried, IsFaultAt, IsSiteFault, TurnsNone};
+ghost use Rattle.site_workers.specs.Faults.{fault_of_courier, IsCarried, IsFaultAt, IsFaultOf, IsWantBehind, TurnsNone};
+ghost use Rattle.site_workers.specs.declared.site_fault.SiteFault.TheVariants.{Worker as OfWorker, Courier as OfCourier};
 ghost use Rattle.site_workers.specs.Scripts.{HasNoAccept, IsRising, IsClosed, IsWorked};
 
 use crate::courier::carry;
 use crate::fault::{fault_of_call, fault_of_courier, fault_of_receipts};
 use crate::inbox::Way;
 use crate::post::{Mail, Post, end_all};
+use crate::running::Answer;
+use crate::site_fault::SiteFault;
 use field_bounds::{Command, Entry, Schema, SiteNo, statement_of};
 use kept_records::MemoryMedium;
 use site_desk::{Blank, Closed, Desk, Gate, Pass, Receipt, check_receipts};
@@ -206,18 +209,39 @@ fn told_of_courier<L: Ledger>(
     }
 }
 
-/// What a worker and its courier answered. Of two faults the worker's is told.
+/// What a worker and its courier answered. Of two faults the worker's is told: the courier's comes with
+/// the worker's receipts.
 fn worker_first<T: Drop>(
     worked: Result<Vec<Receipt>, WorkFault>,
     carried: Result<T, WorkFault>,
-) -> Result<(Vec<Receipt>, T), WorkFault>
-    ensures worker { IfErr worked (λ fault. result ≡ Err fault) }
-    ensures fault { IfErr result (λ fault. (worked ≡ Err fault) ⊎ (carried ≡ Err fault)) }
+) -> Result<(Vec<Receipt>, T), SiteFault>
+    ensures worker { IfErr worked (λ fault. result ≡ Err (OfWorker fault)) }
+    ensures courier { IfOk worked (λ own. IfErr carried (λ fault.
+        result ≡ Err (OfCourier fault own))) }
+    ensures both { IfOk worked (λ own. IfOk carried (λ theirs. result ≡ Ok (own, theirs))) }
     ensures ok { IfOk result (λ r. (worked ≡ Ok r.0) × (carried ≡ Ok r.1)) }
 {
-    let own = worked?;
-    let theirs = carried?;
-    Ok((own, theirs))
+    match (worked, carried) {
+        (Err(fault), _) => Err(SiteFault::Worker(fault)),
+        (Ok(receipts), Err(fault)) => Err(SiteFault::Courier { fault, receipts }),
+        (Ok(own), Ok(theirs)) => Ok((own, theirs)),
+    }
+}
+
+/// A worker's receipts, and behind them its courier's.
+fn joined(own: Vec<Receipt>, theirs: Vec<Receipt>) -> Result<Vec<Receipt>, SiteFault>
+    ensures ok { IfOk result (λ receipts. receipts.items ≡ own.items ++ theirs.items) }
+    ensures fault { IfErr result (IsWantBehind own.items) }
+{
+    let mut receipts = own;
+    let mut theirs = theirs;
+    match receipts.append(&mut theirs) {
+        Ok(()) => Ok(receipts),
+        Err(_) => Err(SiteFault::Courier {
+            fault: WorkFault::NoMemory,
+            receipts,
+        }),
+    }
 }
 
 /// The history of a closed desk, where the receipts are exactly its entries.
@@ -292,7 +316,7 @@ fn run_over<'x, L: Ledger + Send + Sync, R: Threads + Wait + Sync, G: Gate>(
     schema: &'x Schema,
     seat: Seat,
     gate: &'x G,
-) -> Result<Vec<Entry>, WorkFault>
+) -> Answer
     requires name { blank.name ≡ L.name }
     requires parts { blank.parts ≡ L.parts }
     requires some { 0 < blank.parts }
@@ -300,7 +324,8 @@ fn run_over<'x, L: Ledger + Send + Sync, R: Threads + Wait + Sync, G: Gate>(
     requires plain { HasNoAccept seat.script.items }
     ensures worked { IfOk result (λ history. IsWorked schema.now seat.site seat.script.items
         history.items) }
-    ensures fault { IfErr result (IsSiteFault schema.now (G.turns gate.now)) }
+    ensures fault { IfErr result (IsFaultOf schema.now (G.turns gate.now) seat.site
+        seat.script.items) }
 {
     let Seat {
         site,
@@ -311,16 +336,17 @@ fn run_over<'x, L: Ledger + Send + Sync, R: Threads + Wait + Sync, G: Gate>(
     let Some((desk, first, second)) = open::<L>(alloc, blank, schema, site) else {
         drop(mail);
         end_all(rt, posts);
-        return Err(WorkFault::NoMemory);
+        return Err(SiteFault::Worker(WorkFault::NoMemory));
     };
     let (worked, first, carried) = run_both(
         rt, alloc, &desk, schema, gate, script, mail, first, second, posts,
     );
     let (own, (theirs, second)) = worker_first(worked, told_of_courier(carried))?;
-    let mut receipts = own;
-    let mut theirs = theirs;
-    receipts.append(&mut theirs)?;
-    finish(alloc, desk, first, second, receipts.as_slice())
+    let receipts = joined(own, theirs)?;
+    match finish(alloc, desk, first, second, receipts.as_slice()) {
+        Ok(history) => Ok(history),
+        Err(fault) => Err(SiteFault::Close { fault, receipts }),
+    }
 }
 
 /// One site, over a ledger that is named here.
@@ -330,12 +356,13 @@ pub(crate) fn run_site<'x, R: Threads + Wait + Sync, G: Gate>(
     schema: &'x Schema,
     seat: Seat,
     gate: &'x G,
-) -> Result<Vec<Entry>, WorkFault>
+) -> Answer
     requires in_schema { seat.site.0 < schema.now.sites }
     requires plain { HasNoAccept seat.script.items }
     ensures worked { IfOk result (λ history. IsWorked schema.now seat.site seat.script.items
         history.items) }
-    ensures fault { IfErr result (IsSiteFault schema.now (G.turns gate.now)) }
+    ensures fault { IfErr result (IsFaultOf schema.now (G.turns gate.now) seat.site
+        seat.script.items) }
 {
     run_over::<Brand, R, G>(rt, alloc, Blank::new(2), schema, seat, gate)
 }

@@ -1,18 +1,18 @@
 //! The thread of one site, and what it promises.
 
 ghost use Rattle.std.specs.Prelude.{◌≡◌, IfOk, IfErr};
-ghost use Rattle.site_workers.specs.Faults.{IsSiteFault};
+ghost use Rattle.site_workers.specs.Faults.{IsFaultOf};
 ghost use Rattle.site_workers.specs.Scripts.{IsWorked};
 
+use crate::site_fault::SiteFault;
 use field_bounds::{Command, Entry, Schema, SiteNo};
 use site_desk::Gate;
 use std::marker::Model;
 use std::snapshot::Snapshot;
 use std::thread::{Promise, PromisedHandle, Threads};
-use work_faults::WorkFault;
 
-/// What a site's thread hands back: its history, or its fault.
-pub(crate) type Answer = Result<Vec<Entry>, WorkFault>;
+/// What a site's thread hands back: its history, or why it has none.
+pub type Answer = Result<Vec<Entry>, SiteFault>;
 
 /// What a site's thread promises of the history that it hands back, or of its fault.
 #[derive(Drop)]
@@ -25,7 +25,8 @@ pub(crate) struct Task<'x, G: Gate> {
 
 impl<'x, G: Gate> Promise<Answer> for Task<'x, G> {
     ghost kept_by = { λ p r. IfOk r (λ history. IsWorked p.schema.now p.site p.script.value.items
-        history.items) × IfErr r (IsSiteFault p.schema.now (G.turns p.gate.now)) };
+        history.items) × IfErr r (IsFaultOf p.schema.now (G.turns p.gate.now) p.site
+        p.script.value.items) };
 }
 
 /// A site's thread. Contracts see what it was given.
@@ -60,7 +61,8 @@ impl<'x, G: Gate> Running<'x, G> {
     pub fn join<R: Threads>(self, rt: &R) -> Answer
         ensures worked { IfOk result (λ history. IsWorked self.entry.schema self.entry.site
             self.entry.script history.items) }
-        ensures fault { IfErr result (IsSiteFault self.entry.schema (G.turns self.entry.gate)) }
+        ensures fault { IfErr result (IsFaultOf self.entry.schema (G.turns self.entry.gate)
+            self.entry.site self.entry.script) }
     {
         let Running { handle } = self;
         handle.join(rt)

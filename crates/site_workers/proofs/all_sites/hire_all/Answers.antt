@@ -1,4 +1,4 @@
-use Rattle.std.proofs.Common.{◌≤◌, ℕ, ◌+◌, ◌<◌, length, refl, sym, ap, ◌∙◌, arith, length-set}
+use Rattle.std.proofs.Common.{◌≤◌, ℕ, ◌+◌, ◌<◌, length, refl, ap, ◌∙◌, arith, length-set}
 use Rattle.site_workers.proofs.Posts.{starts_hiring, hires_next, hired_all}
 use Rattle.site_workers.proofs.all_sites.hire_all.Goals as goal
 

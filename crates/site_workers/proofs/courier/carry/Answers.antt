@@ -1,4 +1,4 @@
-use Rattle.std.proofs.Common.{rules, ◌≡◌, ℕ, ◌<◌, ◌≤◌, List, length, slice_index_or, Bool, true, false, true≢false, ap, sym, subst, ◌∙◌, arith}
+use Rattle.std.proofs.Common.{rules, ◌≡◌, ℕ, ◌<◌, ◌≤◌, List, length, slice_index_or, Bool, true, false, ap, sym, subst, ◌∙◌, arith}
 use Rattle.site_workers.specs.declared.inbox.View.{View}
 use Rattle.site_workers.proofs.Carrying.{begins_at, accepts_at, ends_at, skips_at, finishes, stops_at, counts_more}
 use Rattle.site_workers.proofs.courier.carry.Goals as goal

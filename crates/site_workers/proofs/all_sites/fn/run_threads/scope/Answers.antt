@@ -5,7 +5,6 @@ use Rattle.field_bounds.specs.declared.entry.Command.{Command}
 use Rattle.site_workers.specs.Inboxes.{site_no}
 use Rattle.site_workers.specs.Scripts.{scripts_of, HasNoAccept}
 use Rattle.site_workers.specs.Jobs.{FitsJob}
-use Rattle.site_workers.proofs.Answered.{run_worked, run_fault}
 use Rattle.site_workers.proofs.Teams.{starts_more, seat_fits, joins, fits_job, fits_none}
 use Rattle.site_workers.proofs.all_sites.fn.run_threads.scope.Goals.{in-Some-seat_of+in-Ok, in-Some-1, in-None-1, in-Some-seat_of+in-Err, in_default-seat_of}
 use Rattle.site_workers.proofs.all_sites.fn.run_threads.scope.Goals as goal
@@ -53,12 +52,10 @@ loop-script-preserved g c =
 
 pub returns : goal.returns
 returns g c =
-    let Turns = g.G.Gate.turns c.captures.gate.now in
-    let joined = joins c.captures.schema.now c.captures.gate.now Turns (scripts_of c.captures.scripts.items) c.loop-script.left.items
-    c.loop-script.handles.items (sym c.loop-script.left.ok.0 ∙ c.in_default.ensures.cases.0) c.loop-script.invariant.started in
-    let all = c.in_ok-join_all.ensures.answers c.captures.schema.now c.captures.gate.now (scripts_of
-    c.captures.scripts.items) joined in record {
-      worked = run_worked c.captures.schema.now Turns (scripts_of c.captures.scripts.items) _ c.gather.result all c.gather.ensures.ok;
-      fault = run_fault c.captures.schema.now Turns (scripts_of c.captures.scripts.items) _ c.gather.result all c.gather.ensures.lowest
-          c.gather.ensures.memory;
+    let Turns = g.G.Gate.turns c.captures.gate.now in record {
+      answers =
+          c.join_all.ensures.answers c.captures.schema.now c.captures.gate.now (scripts_of c.captures.scripts.items)
+          (joins c.captures.schema.now c.captures.gate.now Turns (scripts_of c.captures.scripts.items) c.loop-script.left.items
+          c.loop-script.handles.items (sym c.loop-script.left.ok.0 ∙ c.in_default.ensures.cases.0) c.loop-script.invariant.started);
+      fault = c.join_all.ensures.fault;
     }

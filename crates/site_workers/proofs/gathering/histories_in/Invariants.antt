@@ -1,6 +1,6 @@
 use Rattle.std.proofs.Common.{◌≡◌, ◌++◌, reverse, vec_len, None}
 use Rattle.site_workers.specs.Jobs.{lowest_fault, answers_of}
-use Rattle.site_workers.proofs.all_sites.gather.Given as goal
+use Rattle.site_workers.proofs.gathering.histories_in.Given as goal
 
 abbrev pub invariant-loop-answer : goal.invariant-loop-answer
 invariant-loop-answer l = record {
