@@ -26,7 +26,7 @@ taken_or : List (List Entry) → List ℕ → ℕ → List ℕ → Option Entry 
 taken_or hs counts s order next =
     elim next [ None ↦ [] | Some e ↦ e ∷ taken_from hs (set counts s (get_or counts s 0 + 1)) order ]
 
-takes_one : (hs : List (List Entry)) (counts : List ℕ) (s : ℕ) (order : List ℕ) (e : Entry) → upcoming hs counts s ≡ Some e
+pub takes_one : (hs : List (List Entry)) (counts : List ℕ) (s : ℕ) (order : List ℕ) (e : Entry) → upcoming hs counts s ≡ Some e
     → taken_from hs counts (s ∷ order) ≡ e ∷ taken_from hs (set counts s (get_or counts s 0 + 1)) order
 unfolding taken_or
 takes_one hs counts s order e is = ap (taken_or hs counts s order) is
@@ -77,7 +77,7 @@ pub zeros_of : (vs : List (Vec Entry)) (counts : List ℕ) → counts ≡ replic
 zeros_of vs counts is =
     sym (zeros (lists_of vs)) ∙ ap (λ (n : ℕ). replicate n 0) (length-map vs (λ (v : Vec Entry). v.items)) ∙ sym is
 
-none_placed : (hs : List (List Entry)) (s : ℕ) → get_or (none_taken hs) s 0 ≡ 0
+pub none_placed : (hs : List (List Entry)) (s : ℕ) → get_or (none_taken hs) s 0 ≡ 0
 none_placed [] s = refl
 none_placed (h ∷ hs) zero = refl
 none_placed (h ∷ hs) (suc s) = none_placed hs s

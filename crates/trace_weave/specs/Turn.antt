@@ -1,4 +1,5 @@
--- A turn of weaving, as the code takes it: by how many entries of each history were placed (this project).
+-- A turn of weaving, by how many entries of each history were placed (this project). Public clauses cite `upcoming` alone: the
+-- rest is what the loops of weaving go by, and what they come to is told by the picks of `Weave.antt`.
 use Rattle.std.specs.Prelude.{◌≡◌, ◌⊎◌, ℕ, ◌-◌, ◌+◌, ◌<◌, List, [], ◌∷◌, length, slice_index_or, Option, Some, None}
 use Rattle.std.specs.List.{slice_get}
 use Rattle.field_bounds.specs.declared.entry.Entry.{Entry}

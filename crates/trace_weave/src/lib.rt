@@ -8,7 +8,7 @@ mod walk;
 mod weaving;
 
 pub use fault::WeaveFault;
-pub use laws::weaves_are_sound;
+pub use laws::{an_order_takes_each_next_entry, weaves_are_sound};
 pub use order::weave_order;
 pub use walk::{WovenEntries, upcoming};
 pub use weaving::{may_stand, weave};
