@@ -1,13 +1,13 @@
 //! Histories that are held whole, as lists of entries.
 
-ghost use Rattle.std.specs.Prelude.{◌≡◌, ◌<◌, ◌≤◌, ◌-◌, ◌^◌, IfOk, IfSome, length, slice_index_or};
-ghost use Rattle.trace_weave.specs.Turn.{upcoming};
+ghost use Rattle.std.specs.Prelude.{◌≡◌, ◌≤◌, IfOk, length};
 ghost use Rattle.trace_weave.specs.Weave.{lists_of};
 
 use crate::fault::Unread;
 use crate::histories::Histories;
 use field_bounds::Entry;
 use std::alloc::{AllocError, Global};
+use trace_weave::upcoming;
 
 /// Histories that are lent, each whole, and how many entries of each were taken.
 #[derive(Drop)]
@@ -16,17 +16,6 @@ pub struct ListedHistories<'a> {
     counts: Vec<usize>,
     ghost few: { length histories.now ≤ 65535 },
     ghost each: { length counts.items ≡ length histories.now },
-}
-
-/// The next entry of the history of this place, of which so many were taken.
-fn upcoming(histories: &[Vec<Entry>], counts: &[usize], site: usize) -> Option<Entry>
-    requires { length counts.now ≡ length histories.now }
-    ensures next { result ≡ upcoming (lists_of histories.now) counts.now site }
-    ensures inside { IfSome result (λ _. site < length counts.now) }
-    ensures room { IfSome result (λ _. slice_index_or counts.now site 0 < 2 ^ 64 - 1) }
-{
-    let history = histories.get(site)?;
-    history.get(counts[site]).copied()
 }
 
 impl<'a> ListedHistories<'a> {

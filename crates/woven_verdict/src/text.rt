@@ -1,24 +1,11 @@
 //! The text of a verdict.
 
 ghost use Rattle.std.specs.Prelude.{◌≡◌, string_bytes, IfOk};
-ghost use Rattle.escrow_audit.specs.Audit.{rule_text, verdict_text};
+ghost use Rattle.escrow_audit.specs.Audit.{verdict_text};
 
-use central_rules::{Rule, Verdict};
+use central_rules::Verdict;
+use escrow_audit::rule_word;
 use std::alloc::{AllocError, Global};
-
-// A rule in lower case.
-fn rule_word(rule: Rule) -> &'static str
-    ensures { result.now ≡ rule_text rule }
-{
-    match rule {
-        Rule::Site => "site",
-        Rule::Grant => "grant",
-        Rule::Shortage => "shortage",
-        Rule::Interval => "interval",
-        Rule::Statement => "statement",
-        Rule::Reply => "reply",
-    }
-}
 
 /// The line that an audit writes for a verdict, over so many entries: `legal N`, or `illegal AT RULE`.
 /// The error is want of memory.

@@ -1,26 +1,13 @@
 //! Whose turn it is: the lowest site whose next entry may stand comes next.
 
-ghost use Rattle.std.specs.Prelude.{◌≡◌, ℕ, ◌↔◌, List, IsTrue, IfSome, IfNone, None};
+ghost use Rattle.std.specs.Prelude.{◌≡◌, ℕ, List, IfSome, IfNone, None};
 ghost use Rattle.field_bounds.specs.declared.entry.Entry.{Entry as EntryType};
-ghost use Rattle.trace_weave.specs.Weave.{MayFollow};
 ghost use Rattle.trace_weave.specs.Turn.{upcoming, HoldsBack, IsTurn, IsFirstLeft, IsReached, GoesOn};
-ghost use Rattle.statement_set.specs.Issued.{HasIssued};
 
 use crate::histories::Histories;
-use field_bounds::{Command, Entry, Reply, statement_of};
+use field_bounds::{Entry, statement_of};
 use statement_set::StatementSet;
-
-/// Whether the entry may stand behind a trace that issues these statements.
-fn may_stand(issued: &StatementSet, entry: &Entry) -> bool
-    ensures { (trace : List EntryType) → HasIssued issued.now trace →
-        (IsTrue result ↔ MayFollow trace entry.now) }
-{
-    match (entry.command, entry.reply) {
-        (Command::Accept(statement), Reply::Accepted { gain: _ }) => issued.has(statement),
-        (Command::Accept(statement), Reply::Unsure) => issued.has(statement),
-        _ => true,
-    }
-}
+use trace_weave::may_stand;
 
 /// The lowest history, from `from` on, whose next entry may stand, with that entry.
 pub(crate) fn next_turn<H: Histories>(
