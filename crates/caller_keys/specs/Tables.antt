@@ -1,12 +1,12 @@
 -- Tables of the last transaction of each key (this project).
-use Rattle.std.specs.Prelude.{◌≡◌, ℕ, List, ◌∷◌, ◌++◌, length, take, replicate, Option, bytes_eq}
+use Rattle.std.specs.Prelude.{◌≡◌, ℕ, List, ◌∷◌, ◌++◌, length, drop, replicate, Option, bytes_eq}
 use Rattle.std.specs.Map.{lookup}
 use Rattle.field_bounds.specs.declared.id.TxnId.{TxnId}
 use Rattle.caller_keys.specs.Keys.{KeyNote, last_txn, IsKeyed}
 
--- A key as a table stores it: its length, and its bytes with zeros behind them, 64 together.
+-- A key as a table stores it: its length, and its bytes with zeros behind them, 64 together where it is no longer.
 unfoldable pub stored_of : List ℕ → List ℕ
-stored_of key = length key ∷ take 64 (key ++ replicate 64 0)
+stored_of key = length key ∷ key ++ drop (length key) (replicate 64 0)
 
 -- A table: keys as they are stored, each with the transaction that was noted last with it, and how many keys more can be noted
 -- without memory.

@@ -22,7 +22,8 @@ fn is_key_byte(byte: u8) -> bool
     matches!(byte, b'A'..=b'Z' | b'a'..=b'z' | b'0'..=b'9' | b'.' | b'_' | b'-')
 }
 
-fn is_key(word: &[u8]) -> bool
+/// Whether the bytes are a key. Costs a pass over them.
+pub(crate) fn is_key(word: &[u8]) -> bool
     ensures decides { IsTrue result ↔ IsKey word.now }
 {
     !word.is_empty() && word.len() <= MAX_KEY && word.iter().all(|byte| is_key_byte(*byte))

@@ -5,6 +5,7 @@
 mod key;
 mod laws;
 mod note;
+mod reading;
 mod split;
 mod table;
 

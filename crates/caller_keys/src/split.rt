@@ -1,10 +1,71 @@
 //! Texts of notes and records, split.
 
-ghost use Rattle.std.specs.Prelude.{◌≡◌, IfOk};
-ghost use Rattle.caller_keys.specs.Tables.{Splits};
+ghost use Rattle.std.specs.Prelude.{◌≡◌, ◌++◌, ◌∷◌, [], List, MatchOption, IfOk, OnOk};
+ghost use Rattle.caller_keys.specs.Keys.{IsKey, KeyNote, note_of};
+ghost use Rattle.caller_keys.specs.Tables.{Splits, Tells};
+ghost use Rattle.caller_keys.specs.Reading.{IsOneLine, Takes};
 
+use crate::key::Key;
+use crate::reading::read_note;
 use crate::table::KeyTable;
+use field_bounds::TxnId;
+use memchr::memchr;
 use std::alloc::{AllocError, Global};
+
+// The bytes before the first line feed, and those after it, or None where there is no line feed.
+fn split_line(bytes: &[u8]) -> Option<(&[u8], &[u8])>
+    ensures parts { MatchOption result (IsOneLine bytes.now)
+        (λ parts. IsOneLine parts.0.now × (bytes.now ≡ parts.0.now ++ 10 ∷ parts.1.now)) }
+{
+    let at = memchr(b'\n', bytes)?;
+    Some((&bytes[..at], &bytes[at + 1..]))
+}
+
+// Notes a key that was read.
+fn note_read(keys: &mut KeyTable, key: &[u8], txn: TxnId) -> Result<(), AllocError>
+    requires key { IsKey key.now }
+    ensures noted { OnOk result ((notes : List KeyNote) → Tells keys.old notes
+        → Tells keys.new (notes ++ note_of key.now txn ∷ [])) }
+{
+    keys.reserve()?;
+    keys.note(Key { bytes: key }, txn);
+    Ok(())
+}
+
+// Takes a line: notes it where it is a note's, and else puts it behind the records.
+fn take_line(
+    alloc: Global,
+    keys: &mut KeyTable,
+    records: &mut Vec<u8>,
+    line: &[u8],
+) -> Result<(), AllocError>
+    requires line { IsOneLine line.now }
+    ensures taken { OnOk result (Takes keys.old keys.new records.old.items records.new.items line.now) }
+{
+    match read_note(alloc, line)? {
+        Some((key, txn)) => note_read(keys, key.as_slice(), txn),
+        None => {
+            records.extend_from_slice(line)?;
+            records.push(b'\n')?;
+            Ok(())
+        }
+    }
+}
+
+// The same as `split_notes`, whatever the text.
+fn split_lines(alloc: Global, text: &[u8]) -> Result<(KeyTable, Vec<u8>), AllocError>
+    ensures { IfOk result (λ parts. Splits text.now parts.0 parts.1.items) }
+{
+    let mut keys = KeyTable::new(alloc);
+    let mut records = Vec::with_capacity(alloc, text.len())?;
+    let mut left = text;
+    while let Some((line, behind)) = split_line(left) {
+        take_line(alloc, &mut keys, &mut records, line)?;
+        left = behind;
+    }
+    records.extend_from_slice(left)?;
+    Ok((keys, records))
+}
 
 /// Splits a text: the table of the notes of its lines, and its records, which are its other lines one
 /// behind another, and what stands behind the last line feed. Where no byte `K` is in the text it is
@@ -13,5 +74,8 @@ use std::alloc::{AllocError, Global};
 pub fn split_notes(alloc: Global, text: Vec<u8>) -> Result<(KeyTable, Vec<u8>), AllocError>
     ensures split { IfOk result (λ parts. Splits text.items parts.0 parts.1.items) }
 {
-    Ok((KeyTable::new(alloc), text))
+    if memchr(b'K', text.as_slice()).is_none() {
+        return Ok((KeyTable::new(alloc), text));
+    }
+    split_lines(alloc, text.as_slice())
 }
