@@ -1,12 +1,12 @@
 -- Texts of lines joined, and their fronts.
-use Rattle.std.proofs.Common.{append_assoc, ◌≡◌, ◌≢◌, ◌⊎◌, ℕ, ◌+◌, ◌-◌, ◌<◌, ◌≤◌, List, [], ◌∷◌, ◌++◌, All, inl, inr, length, take, flat_map, refl, sym, ap, subst, ◌∙◌, arith}
+use Rattle.std.proofs.Common.{append_assoc, ◌≡◌, ◌≢◌, ◌⊎◌, ℕ, ◌+◌, ◌-◌, ◌<◌, ◌≤◌, List, [], ◌∷◌, ◌++◌, inl, inr, length, take, flat_map, refl, sym, ap, subst, ◌∙◌, arith}
 use Rattle.std.specs.List.{AllByRecursion}
 use Rattle.std.proofs.lemmas.Bool.{cases_eq, cases_lt}
 use Rattle.std.proofs.lemmas.List.{append-nil, length-append, take-append-le}
 use Rattle.std.proofs.Math.Seq.{take-append-add}
 use Rattle.std.proofs.lemmas.Grind.{flat_map-append}
 use Rattle.std.proofs.lemmas.List.Elements.{All-nil, All-cons, All-head, All-tail, All-append, All-take}
-use Rattle.caller_keys.specs.Keys.{KeyNote, IsNote, note_line, HasNoLf, KeyedLine, noted, other, line_text, IsOther, IsLine, notes_in, records_in, IsKeyed, EndsInLineFeed, AreLines, LeavesFront, CutsRest}
+use Rattle.caller_keys.specs.Keys.{KeyNote, IsNote, note_line, HasNoLf, KeyedLine, noted, other, line_text, IsOther, IsLine, notes_in, records_in, IsKeyed, AreLines, LeavesFront, CutsRest}
 use Rattle.caller_keys.proofs.Lines.{Without, no_cut, Same, by_test, tested}
 use Rattle.caller_keys.proofs.Texts.{all_append, body, body_free}
 

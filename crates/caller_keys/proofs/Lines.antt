@@ -1,6 +1,6 @@
 -- Lines of notes, and the one way in which bytes are cut at a byte.
-use Rattle.std.proofs.Common.{append_assoc, ◌≡◌, ◌≢◌, ℕ, zero, suc, ◌<◌, ◌≤◌, ◌^◌, ◌/◌, ◌%◌, ◌==◌, true, false, List, [], ◌∷◌, ◌++◌, All, length, codes, slice_index, refl, sym, ap, subst, ◌∙◌, arith}
-use Rattle.std.specs.List.{list_any, AllPass}
+use Rattle.std.proofs.Common.{append_assoc, ◌≡◌, ◌≢◌, ℕ, zero, suc, ◌<◌, ◌^◌, ◌/◌, ◌%◌, ◌==◌, true, false, List, [], ◌∷◌, ◌++◌, All, codes, slice_index, refl, sym, ap, subst, ◌∙◌, arith}
+use Rattle.std.specs.List.{list_any}
 use Rattle.std.specs.Fmt.{decimal}
 use Rattle.std.proofs.lemmas.Bool.{or_parts, or_from, eq-eqb, ne_eqb}
 use Rattle.std.proofs.lemmas.List.{append_cancel_left, append_cancel_right}
@@ -9,7 +9,7 @@ use Rattle.std.proofs.lemmas.List.Elements.{All-nil, All-cons, All-head, All-tai
 use Rattle.hex.specs.Hex.{encode_with, encode_upper, upper_digits}
 use Rattle.field_bounds.specs.declared.id.TxnId.{TxnId}
 use Rattle.line_words.proofs.WordLemmas.{IsWord as IsSeen, decimal_word}
-use Rattle.caller_keys.specs.Keys.{IsKey, KeyNote, IsNote, note_of, note_line, HasNoLf}
+use Rattle.caller_keys.specs.Keys.{IsKey, KeyNote, IsNote, note_of, note_line}
 use Rattle.caller_keys.specs.Reading.{spelled}
 
 -- no byte is this one

@@ -1,17 +1,13 @@
 -- Texts of lines: taken one after another, and cut in one way.
-use Rattle.std.proofs.Common.{append_assoc, ◌≡◌, ◌≢◌, ◌⊎◌, ℕ, ◌+◌, ◌<◌, ◌≤◌, List, [], ◌∷◌, ◌++◌, All, Ok, inl, inr, length, take, flat_map, refl, sym, ap, subst, ◌∙◌, arith}
+use Rattle.std.proofs.Common.{append_assoc, ◌≡◌, ◌≢◌, ℕ, ◌<◌, List, [], ◌∷◌, ◌++◌, length, flat_map, refl, sym, ap, subst, ◌∙◌, arith}
 use Rattle.std.specs.List.{AllByRecursion}
-use Rattle.std.proofs.lemmas.Bool.{cases_eq, cases_lt}
-use Rattle.std.proofs.lemmas.List.{append-nil, length-append, take-append-le, flat_map_more}
-use Rattle.std.proofs.Math.Seq.{take-append-add}
-use Rattle.std.proofs.lemmas.Grind.{flat_map-append}
-use Rattle.std.proofs.lemmas.List.Elements.{All-nil, All-cons, All-head, All-tail, All-append, All-take}
+use Rattle.std.proofs.lemmas.List.{append-nil, length-append, flat_map_more}
 use Rattle.hex.specs.Hex.{encode_upper}
 use Rattle.field_bounds.specs.declared.id.TxnId.{TxnId}
-use Rattle.caller_keys.specs.Keys.{KeyNote, IsNote, note_of, note_line, HasNoLf, KeyedLine, noted, other, line_text, IsOther, IsLine, notes_in, records_in, IsKeyed, EndsInLineFeed, AreLines}
+use Rattle.caller_keys.specs.Keys.{KeyNote, IsNote, note_of, note_line, KeyedLine, noted, other, line_text, IsLine, notes_in, records_in, IsKeyed}
 use Rattle.caller_keys.specs.Tables.{KeyTableValue, Tells, Splits}
-use Rattle.caller_keys.specs.Reading.{IsOneLine, spelled, Gone, Takes}
-use Rattle.caller_keys.proofs.Lines.{Without, no_cut, Same, one_cut, by_test, tested, body_of, body_without, wide, same_spelled}
+use Rattle.caller_keys.specs.Reading.{IsOneLine, Gone, Takes}
+use Rattle.caller_keys.proofs.Lines.{Without, no_cut, one_cut, by_test, tested, body_of, body_without, wide, same_spelled}
 use Rattle.caller_keys.proofs.Keyed.{key_again, one_key}
 
 -- ---- lists of lines
@@ -144,3 +140,10 @@ one_keyed text ns ms r s k j =
       k.records_are ∙ ap (λ (ls : List KeyedLine). flat_map records_in ls ++ k.rest) same.lines
           ∙ ap (λ (l : List ℕ). flat_map records_in j.lines ++ l) same.rest ∙ sym j.records_are,
     )
+
+-- fewer bytes are behind a line
+pub shorter : (left line behind : List ℕ) → left ≡ line ++ 10 ∷ behind → length behind < length left
+shorter left line behind is =
+    let sum = length-append line (10 ∷ behind) in
+    let all : length left ≡ length (line ++ 10 ∷ behind) = ap length is in
+    omega (arith, sum, all)

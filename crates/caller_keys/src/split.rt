@@ -1,6 +1,6 @@
 //! Texts of notes and records, split.
 
-ghost use Rattle.std.specs.Prelude.{◌≡◌, ◌++◌, ◌∷◌, [], List, MatchOption, IfOk, OnOk};
+ghost use Rattle.std.specs.Prelude.{◌≡◌, ◌≢◌, ◌↔◌, ◌++◌, ◌∷◌, [], List, All, MatchOption, IfOk, OnOk, IsOk, IsTrue};
 ghost use Rattle.caller_keys.specs.Keys.{IsKey, KeyNote, note_of};
 ghost use Rattle.caller_keys.specs.Tables.{Splits, Tells};
 ghost use Rattle.caller_keys.specs.Reading.{IsOneLine, Takes};
@@ -67,14 +67,22 @@ fn split_lines(alloc: Global, text: &[u8]) -> Result<(KeyTable, Vec<u8>), AllocE
     Ok((keys, records))
 }
 
+// Whether no byte is a `K`: then no line is a note's.
+fn is_clear(text: &[u8]) -> bool
+    ensures clear { IsTrue result ↔ All (λ b. b ≢ 75) text.now }
+{
+    memchr(b'K', text).is_none()
+}
+
 /// Splits a text: the table of the notes of its lines, and its records, which are its other lines one
 /// behind another, and what stands behind the last line feed. Where no byte `K` is in the text it is
-/// handed through as it is. The error is want of memory. Costs a pass over the text, and where there is
-/// a `K` memory of its length, and of each key that is noted.
+/// handed through as it is, and there is no error. The error is want of memory. Costs a pass over the
+/// text, and where there is a `K` memory of its length, and of each key that is noted.
 pub fn split_notes(alloc: Global, text: Vec<u8>) -> Result<(KeyTable, Vec<u8>), AllocError>
     ensures split { IfOk result (λ parts. Splits text.items parts.0 parts.1.items) }
+    ensures clear { All (λ b. b ≢ 75) text.items → IsOk result }
 {
-    if memchr(b'K', text.as_slice()).is_none() {
+    if is_clear(text.as_slice()) {
         return Ok((KeyTable::new(alloc), text));
     }
     split_lines(alloc, text.as_slice())

@@ -1,4 +1,4 @@
-use Rattle.std.proofs.Common.{◌≡◌, List, ℕ, Bool, true, false, sym, subst, ◌∙◌, rules}
+use Rattle.std.proofs.Common.{◌≡◌, Bool, true, false, sym, subst, ◌∙◌, rules}
 use Rattle.hex.specs.Hex.{encode_upper}
 use Rattle.caller_keys.specs.Keys.{IsKey}
 use Rattle.caller_keys.proofs.Keyed.{one_key, no_key, not_again}

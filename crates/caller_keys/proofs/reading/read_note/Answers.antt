@@ -1,7 +1,7 @@
-use Rattle.std.proofs.Common.{◌≡◌, ◌≢◌, List, ℕ, rules}
+use Rattle.std.proofs.Common.{◌≢◌, List, ℕ, rules}
 use Rattle.hex.specs.Hex.{encode_upper}
 use Rattle.caller_keys.specs.Keys.{IsKey}
-use Rattle.caller_keys.proofs.Lines.{not_spelled, other_numbers, other_digits, note_told}
+use Rattle.caller_keys.proofs.Lines.{other_numbers, other_digits}
 use Rattle.caller_keys.proofs.reading.read_note.Goals as goal
 
 pub returns-in_default-txn_of : goal.returns-in_default-txn_of

@@ -1,4 +1,3 @@
-use Rattle.std.proofs.Common.{List, ℕ, ◌∷◌, ◌++◌}
 use Rattle.std.specs.Fmt.{decimal}
 use Rattle.caller_keys.proofs.Lines.{no_cut, not_number}
 use Rattle.caller_keys.proofs.OnNone.{none_anyway}

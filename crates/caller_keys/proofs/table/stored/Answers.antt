@@ -1,4 +1,4 @@
-use Rattle.std.proofs.Common.{◌≡◌, List, ℕ, ◌+◌, ◌-◌, ◌∷◌, ◌++◌, length, drop, replicate, ap, arith}
+use Rattle.std.proofs.Common.{◌≡◌, ℕ, ◌+◌, ◌-◌, ◌∷◌, ◌++◌, length, drop, replicate, ap, arith}
 use Rattle.caller_keys.specs.Tables.{stored_of}
 use Rattle.caller_keys.proofs.table.stored.Goals as goal
 

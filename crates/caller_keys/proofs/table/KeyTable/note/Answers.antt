@@ -1,4 +1,4 @@
-use Rattle.std.proofs.Common.{◌≡◌, ◌<◌, ℕ, List, cond, Some, bytes_eq, rules, ap, sym, subst, ◌∙◌}
+use Rattle.std.proofs.Common.{◌<◌, cond, Some, bytes_eq, rules, ap, ◌∙◌}
 use Rattle.indexmap.specs.IndexMap.{Updates, spare}
 use Rattle.caller_keys.specs.Tables.{KeyTableValue, last_in}
 use Rattle.caller_keys.proofs.TableLemmas.{put_tells, tells_more}
