@@ -10,7 +10,7 @@ use Rattle.hex.specs.declared.error.FromHexError.TheVariants.{OutOfMemory}
 use Rattle.caller_keys.specs.Keys.{is_key_byte, IsKey}
 
 -- a byte of a key is a byte
-key_byte : (b : ℕ) → is_key_byte b ≡ true → b < 256
+pub key_byte : (b : ℕ) → is_key_byte b ≡ true → b < 256
 unfolding is_key_byte
 key_byte b passes = grind (arith, passes)
 

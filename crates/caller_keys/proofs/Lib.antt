@@ -4,3 +4,4 @@ pub mod OnNone
 pub mod Keyed
 pub mod Texts
 pub mod Fronts
+pub mod Spelling

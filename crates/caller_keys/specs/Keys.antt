@@ -38,6 +38,10 @@ pub record IsNote (n : KeyNote) : Type 0 where
 abbrev pub note_line : KeyNote → List ℕ
 note_line n = codes "K " ++ decimal n.txn.epoch ++ 32 ∷ decimal n.txn.number ++ 32 ∷ encode_upper n.key ++ 10 ∷ []
 
+-- One of the bytes `A-Z`, `0-9`, space and line feed, with which the line of a note is spelled.
+unfoldable pub is_note_byte : ℕ → Bool
+is_note_byte b = (nat_le 65 b && nat_le b 90) || (nat_le 48 b && nat_le b 57) || (b == 32) || (b == 10)
+
 -- The transaction of the last note with this key.
 abbrev pub last_txn : List ℕ → List KeyNote → Option TxnId
 last_txn key notes = fold (λ found n. if bytes_eq n.key key then Some n.txn else found) None notes

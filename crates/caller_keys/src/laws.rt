@@ -1,8 +1,8 @@
 //! What texts of notes and records tell, as contracts of functions that do nothing.
 
 ghost use Rattle.std.specs.Prelude.{◌≡◌, ◌≢◌, ◌++◌, ◌∷◌, ℕ, List, [], All, take};
-ghost use Rattle.std.specs.List.{AllByRecursion, flat_map};
-ghost use Rattle.caller_keys.specs.Keys.{KeyNote, IsNote, note_line, HasNoLf, IsKeyed, AreLines, LeavesFront, CutsRest};
+ghost use Rattle.std.specs.List.{AllPass, AllByRecursion, flat_map};
+ghost use Rattle.caller_keys.specs.Keys.{KeyNote, IsNote, note_line, is_note_byte, EndsInLineFeed, HasNoLf, IsKeyed, AreLines, LeavesFront, CutsRest};
 
 /// A text has one list of notes, and its records are one text.
 pub fn notes_and_records_are_told_apart()
@@ -31,4 +31,11 @@ pub fn a_stop_leaves_a_front()
     ensures cut { (text : List ℕ) (notes : List KeyNote) (before rest : List ℕ)
         → IsKeyed text notes (before ++ rest) → AreLines before → HasNoLf rest
         → CutsRest text notes before rest }
+{}
+
+/// The line of a note is a batch's: it is spelled with `A-Z`, `0-9`, space and line feed alone
+/// (`letters`), and ends in a line feed (`line`).
+pub fn notes_are_spelled_as_batches()
+    ensures letters { (n : KeyNote) → IsNote n → AllPass is_note_byte (note_line n) }
+    ensures line { (n : KeyNote) → EndsInLineFeed (note_line n) }
 {}

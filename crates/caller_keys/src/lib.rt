@@ -10,7 +10,10 @@ mod split;
 mod table;
 
 pub use key::{Key, read_key};
-pub use laws::{a_stop_leaves_a_front, keyed_texts_are_joined, notes_and_records_are_told_apart};
+pub use laws::{
+    a_stop_leaves_a_front, keyed_texts_are_joined, notes_and_records_are_told_apart,
+    notes_are_spelled_as_batches,
+};
 pub use note::push_note;
-pub use split::split_notes;
+pub use split::{has_no_marks, split_notes};
 pub use table::KeyTable;

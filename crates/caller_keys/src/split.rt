@@ -1,7 +1,7 @@
 //! Texts of notes and records, split.
 
 ghost use Rattle.std.specs.Prelude.{◌≡◌, ◌≢◌, ◌↔◌, ◌++◌, ◌∷◌, [], List, All, MatchOption, IfOk, OnOk, IsOk, IsTrue};
-ghost use Rattle.caller_keys.specs.Keys.{IsKey, KeyNote, note_of};
+ghost use Rattle.caller_keys.specs.Keys.{IsKey, KeyNote, note_of, IsKeyed};
 ghost use Rattle.caller_keys.specs.Tables.{Splits, Tells};
 ghost use Rattle.caller_keys.specs.Reading.{IsOneLine, Takes};
 
@@ -67,11 +67,20 @@ fn split_lines(alloc: Global, text: &[u8]) -> Result<(KeyTable, Vec<u8>), AllocE
     Ok((keys, records))
 }
 
-// Whether no byte is a `K`: then no line is a note's.
+// Whether no byte is a `K`.
 fn is_clear(text: &[u8]) -> bool
     ensures clear { IsTrue result ↔ All (λ b. b ≢ 75) text.now }
 {
     memchr(b'K', text).is_none()
+}
+
+/// Whether no byte is a `K`, with which each line of a note begins: then no line is a note's. Costs a pass
+/// over the text, and no memory.
+pub fn has_no_marks(text: &[u8]) -> bool
+    ensures clear { IsTrue result ↔ All (λ b. b ≢ 75) text.now }
+    ensures keyed { IsTrue result → IsKeyed text.now [] text.now }
+{
+    is_clear(text)
 }
 
 /// Splits a text: the table of the notes of its lines, and its records, which are its other lines one
@@ -82,7 +91,7 @@ pub fn split_notes(alloc: Global, text: Vec<u8>) -> Result<(KeyTable, Vec<u8>), 
     ensures split { IfOk result (λ parts. Splits text.items parts.0 parts.1.items) }
     ensures clear { All (λ b. b ≢ 75) text.items → IsOk result }
 {
-    if is_clear(text.as_slice()) {
+    if has_no_marks(text.as_slice()) {
         return Ok((KeyTable::new(alloc), text));
     }
     split_lines(alloc, text.as_slice())
