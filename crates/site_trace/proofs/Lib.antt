@@ -1,4 +1,5 @@
 pub mod Sides
+pub mod KeyAnswers
 pub mod Traced
 pub mod Cuts
 pub mod Counting

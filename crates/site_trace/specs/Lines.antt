@@ -4,6 +4,7 @@ use Rattle.std.specs.Fmt.{decimal}
 use Rattle.field_bounds.specs.Schema.{SchemaValue}
 use Rattle.field_bounds.specs.declared.id.TxnId.{TxnId}
 use Rattle.field_bounds.specs.declared.entry.Entry.{Entry}
+use Rattle.caller_keys.specs.Keys.{IsKey}
 use Rattle.entry_text.specs.Spelling.{id_text, entry_text}
 use Rattle.entry_text.specs.Ranges.{IdFits, EntryFits}
 
@@ -29,12 +30,31 @@ pub record AnswersBad (line : List ℕ) : Type 0 where
   pub fits : number < 2 ^ 64
   pub text : line ≡ codes "bad line " ++ (decimal number ++ 32 ∷ why)
 
--- A remark: an answer of a served site that is no entry. It is to a question for a commit, or to a line that asked nothing.
+-- The word is a transaction.
+pub record IsTxn (word : List ℕ) : Type 0 where
+  pub txn : TxnId
+  pub fits : IdFits txn
+  pub text : word ≡ id_text txn
+
+-- It is a transaction, or `no`.
+abbrev pub IsTold : List ℕ → Type 0
+IsTold word = (word ≡ codes "no") ⊎ IsTxn word
+
+-- It tells of a key the transaction that is kept with it, or that there is none.
+pub record AnswersKey (line : List ℕ) : Type 0 where
+  pub key : List ℕ
+  pub told : List ℕ
+  pub is_key : IsKey key
+  pub is_told : IsTold told
+  pub text : line ≡ codes "kept key " ++ (key ++ (codes " -> " ++ told))
+
+-- A remark: an answer of a served site that is no entry. It is to a question for a commit or for a key, or to a line that asked
+-- nothing.
 abbrev pub IsKeptAnswer : List ℕ → Type 0
 IsKeptAnswer line = AnswersKept line (codes " -> yes") ⊎ AnswersKept line (codes " -> no")
 
 abbrev pub IsRemark : List ℕ → Type 0
-IsRemark line = IsKeptAnswer line ⊎ AnswersBad line
+IsRemark line = IsKeptAnswer line ⊎ (AnswersKey line ⊎ AnswersBad line)
 
 -- The line is neither.
 pub record IsOtherLine (schema : SchemaValue) (line : List ℕ) : Type 0 where

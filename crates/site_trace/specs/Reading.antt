@@ -1,14 +1,15 @@
 -- What the reading of a trace does at one line (this project). No public clause cites this module.
-use Rattle.std.specs.Prelude.{◌≡◌, ◌⊎◌, ◌<◌, ◌^◌, ℕ, List, [], ◌∷◌, ◌++◌}
+use Rattle.std.specs.Prelude.{◌≡◌, ◌⊎◌, ◌<◌, ◌^◌, ℕ, List, [], ◌∷◌, ◌++◌, codes}
 use Rattle.std.specs.Fmt.{decimal}
 use Rattle.field_bounds.specs.Schema.{SchemaValue}
 use Rattle.field_bounds.specs.declared.entry.Entry.{Entry}
+use Rattle.caller_keys.specs.Keys.{IsKey}
 use Rattle.site_trace.specs.declared.fault.TraceFault.{TraceFault}
 use Rattle.site_trace.specs.declared.fault.TraceFault.TheVariants.{Line, NoMemory}
 use Rattle.site_trace.specs.declared.line.TraceLine.{TraceLine}
 use Rattle.site_trace.specs.declared.line.TraceLine.TheVariants as lines
 use Rattle.site_trace.specs.declared.reading.TracedEntry.{TracedEntry}
-use Rattle.site_trace.specs.Lines.{IsEntry, IsNoEntry, IsRemark, IsOtherLine}
+use Rattle.site_trace.specs.Lines.{IsEntry, IsNoEntry, IsTold, IsRemark, IsOtherLine}
 
 -- What the line is.
 abbrev pub IsLineRead : SchemaValue → List ℕ → TraceLine → Type 0
@@ -39,3 +40,17 @@ pub record StartsWithNumber (bytes : List ℕ) : Type 0 where
   pub rest : List ℕ
   pub fits : number < 2 ^ 64
   pub text : bytes ≡ decimal number ++ 32 ∷ rest
+
+-- What is told of a key stands behind an arrow.
+pub record TellsBehind (bytes : List ℕ) : Type 0 where
+  pub told : List ℕ
+  pub is_told : IsTold told
+  pub text : bytes ≡ codes "-> " ++ told
+
+-- A key, and behind a space (32) what is told of it.
+pub record TellsKey (bytes : List ℕ) : Type 0 where
+  pub key : List ℕ
+  pub behind : List ℕ
+  pub is_key : IsKey key
+  pub tells : TellsBehind behind
+  pub text : bytes ≡ key ++ 32 ∷ behind

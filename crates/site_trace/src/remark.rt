@@ -1,10 +1,12 @@
 //! Lines of a trace that are no entries.
 
-ghost use Rattle.std.specs.Prelude.{◌≡◌, ◌≢◌, ◌++◌, ℕ, List, MatchOption, MatchBool};
-ghost use Rattle.site_trace.specs.Lines.{AnswersKept, AnswersBad, IsKeptAnswer, IsRemark};
-ghost use Rattle.site_trace.specs.Reading.{IsNumber, StartsWithNumber};
+ghost use Rattle.std.specs.Prelude.{◌≡◌, ◌≢◌, ◌⊎◌, ◌++◌, ℕ, List, MatchOption, MatchBool};
+ghost use Rattle.caller_keys.specs.Keys.{IsKey};
+ghost use Rattle.site_trace.specs.Lines.{AnswersKept, AnswersKey, AnswersBad, IsKeptAnswer, IsTold, IsTxn, IsRemark};
+ghost use Rattle.site_trace.specs.Reading.{IsNumber, StartsWithNumber, TellsBehind, TellsKey};
 
 use crate::split::split_at_first;
+use caller_keys::read_key;
 use entry_text::{read_number, read_txn};
 
 // What stands behind a word at the front of the line, or None where it doesn't stand there.
@@ -60,6 +62,57 @@ fn is_kept_answer(line: &[u8]) -> bool
     tells_commit(line, b" -> yes") || tells_commit(line, b" -> no")
 }
 
+// Whether the word is a transaction.
+fn is_txn(word: &[u8]) -> bool
+    ensures txn { MatchBool result (IsTxn word.now) (IsTxn word.now → ⊥) }
+{
+    read_txn(word).is_some()
+}
+
+// Whether the word is a transaction, or `no`.
+fn is_told(word: &[u8]) -> bool
+    ensures told { MatchBool result (IsTold word.now) (IsTold word.now → ⊥) }
+{
+    word == b"no".as_slice() || is_txn(word)
+}
+
+// Whether what is told of a key stands behind an arrow.
+fn tells_behind(bytes: &[u8]) -> bool
+    ensures tells { MatchBool result (TellsBehind bytes.now) (TellsBehind bytes.now → ⊥) }
+{
+    match behind(bytes, b"-> ") {
+        Some(word) => is_told(word),
+        None => false,
+    }
+}
+
+// Whether the word is a key.
+fn is_key(word: &[u8]) -> bool
+    ensures key { MatchBool result (IsKey word.now) (IsKey word.now → ⊥) }
+{
+    read_key(word).is_some()
+}
+
+// Whether the bytes are a key, and what is told of it behind a space.
+fn tells_key(bytes: &[u8]) -> bool
+    ensures tells { MatchBool result (TellsKey bytes.now) (TellsKey bytes.now → ⊥) }
+{
+    match split_at_first(bytes, b' ') {
+        Some((key, rest)) => is_key(key) && tells_behind(rest),
+        None => false,
+    }
+}
+
+// Whether the line answers a question for a key.
+fn is_key_answer(line: &[u8]) -> bool
+    ensures key { MatchBool result (AnswersKey line.now) (AnswersKey line.now → ⊥) }
+{
+    match behind(line, b"kept key ") {
+        Some(rest) => tells_key(rest),
+        None => false,
+    }
+}
+
 // Whether the word is a number.
 fn is_number(word: &[u8]) -> bool
     ensures number { MatchBool result (IsNumber word.now) (IsNumber word.now → ⊥) }
@@ -88,9 +141,17 @@ fn is_bad_answer(line: &[u8]) -> bool
     }
 }
 
+// Whether the line answers a question for a key, or a line that asked nothing.
+fn is_key_or_bad_answer(line: &[u8]) -> bool
+    ensures either { MatchBool result (AnswersKey line.now ⊎ AnswersBad line.now)
+        (AnswersKey line.now ⊎ AnswersBad line.now → ⊥) }
+{
+    is_key_answer(line) || is_bad_answer(line)
+}
+
 /// Whether the line is an answer that is no entry.
 pub(crate) fn is_remark(line: &[u8]) -> bool
     ensures remark { MatchBool result (IsRemark line.now) (IsRemark line.now → ⊥) }
 {
-    is_kept_answer(line) || is_bad_answer(line)
+    is_kept_answer(line) || is_key_or_bad_answer(line)
 }

@@ -133,7 +133,7 @@ fn leaves_a_torn_end_out(rt: HostRuntime) {
 }
 
 /// Texts, and the first line of each that no trace has.
-const OTHER_LINES: [(&str, u64); 10] = [
+const OTHER_LINES: [(&str, u64); 17] = [
     ("\n", 1),
     ("0 begin\n", 1),
     ("0 begin -> begun 0.1\n0 begin -> begun\n\n", 2),
@@ -147,6 +147,16 @@ const OTHER_LINES: [(&str, u64); 10] = [
     ("bad line  no command\n", 1),
     ("bad line 01 no command\n", 1),
     ("bad line\n", 1),
+    (
+        "kept key order-17 -> 1.1\nkept key a -> 0.0\nkept key order-17 -> no\nkept key order-17\n",
+        4,
+    ),
+    ("kept key order 17 -> 1.1\n", 1),
+    ("kept key  -> no\n", 1),
+    ("kept key order-17 -> yes\n", 1),
+    ("kept key order-17 -> 01.1\n", 1),
+    ("kept key order-17 -> no \n", 1),
+    ("kept key order-17 -> 1.1 -> committed\n", 1),
 ];
 
 #[test]
