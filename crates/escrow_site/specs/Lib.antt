@@ -1,1 +1,6 @@
+pub mod Reading
 pub mod Folders
+pub mod Logs
+pub mod Lost
+pub mod Traces
+pub mod Serving

@@ -1,12 +1,11 @@
 //! The command `check`.
 
 ghost use Rattle.std.specs.Prelude.{◌≡◌, ◌<◌, IfOk, length};
-ghost use Rattle.world_logs.specs.Body.{StandsForLog, AreForLogs};
-ghost use Rattle.world_logs.specs.Outcomes.{IsOutcome, AreOutcomes};
+ghost use Rattle.escrow_site.specs.Logs.{AccountsFor, AreOutcomesRead, IsOutcomeRead, StandAsRead};
 
 use crate::fault::{Fault, Why, refused};
 use crate::folder::{bad_record, replay_folder};
-use crate::progress::tell_reading;
+use crate::reading::ReadsFiles;
 use crate::worlds::{World, read_world};
 use field_bounds::{FieldNo, Kind, Schema, SiteNo};
 use log_replay::{LogReplayed, Standing};
@@ -16,45 +15,57 @@ use world_logs::{Excess, FieldState, WorldFault, check_standings, standings_or_f
 
 /// What the log of a site came to: what it stands for, or the number of its first record that breaks
 /// a rule.
-pub(crate) fn read_outcome(
-    rt: &HostRuntime,
+pub(crate) fn read_outcome<R: ReadsFiles>(
+    files: &R,
+    alloc: Global,
     world: &World,
     site: SiteNo,
 ) -> Result<Result<Standing, u64>, Fault>
     requires site_in { site.0 < world.now.schema.sites }
-    ensures outcome { IfOk result (IsOutcome world.now.schema (StandsForLog world.now.schema)
-        site.0) }
+    ensures outcome { IfOk result (IsOutcomeRead (R.holds files.now) world.now.folders.items
+        world.now.schema site.0) }
 {
     let folder = world.named_folder(site)?;
-    tell_reading(rt, folder.paths.folder.as_str(), site, world.schema.sites());
-    match replay_folder(rt, &folder.paths, &folder.identity, &world.schema, site)? {
+    let paths = &folder.paths;
+    files.tell_reading(paths.folder.as_str(), site, world.schema.sites());
+    match replay_folder(files, alloc, paths, &folder.identity, &world.schema, site)? {
         LogReplayed::Standing { standing, .. } => Ok(Ok(standing)),
-        LogReplayed::BadLine { number } => Err(bad_record(rt.alloc(), &folder.paths, number)),
+        LogReplayed::BadLine { number } => Err(bad_record(alloc, paths, number)),
         LogReplayed::BreaksRule { number } => Ok(Err(number)),
     }
 }
 
 // What the logs of all sites came to, in their order. A log that can't be read ends it, so that it is
 // told before any rule.
-fn read_outcomes(rt: &HostRuntime, world: &World) -> Result<Vec<Result<Standing, u64>>, Fault>
-    ensures outcomes { IfOk result (λ outcomes. AreOutcomes world.now.schema
-        (StandsForLog world.now.schema) outcomes.items) }
+fn read_outcomes<R: ReadsFiles>(
+    files: &R,
+    alloc: Global,
+    world: &World,
+) -> Result<Vec<Result<Standing, u64>>, Fault>
+    ensures outcomes { IfOk result (λ outcomes. AreOutcomesRead (R.holds files.now)
+        world.now.folders.items world.now.schema outcomes.items) }
 {
-    let mut outcomes = Vec::new(rt.alloc());
+    let mut outcomes = Vec::new(alloc);
     for number in 0..world.schema.sites() {
-        outcomes.push(read_outcome(rt, world, SiteNo(number))?)?;
+        outcomes.push(read_outcome(files, alloc, world, SiteNo(number))?)?;
     }
     Ok(outcomes)
 }
 
-/// What the logs of all sites stand for, in their order.
-pub(crate) fn read_standings(rt: &HostRuntime, world: &World) -> Result<Vec<Standing>, Fault>
-    ensures for_logs { IfOk result (λ standings. AreForLogs world.now.schema standings.items) }
+/// What the logs of all sites stand for, in their order: each by the bytes that were read of its own
+/// log.
+pub(crate) fn read_standings<R: ReadsFiles>(
+    files: &R,
+    alloc: Global,
+    world: &World,
+) -> Result<Vec<Standing>, Fault>
+    ensures stand { IfOk result (λ standings. StandAsRead (R.holds files.now)
+        world.now.folders.items world.now.schema standings.items) }
 {
-    let outcomes = read_outcomes(rt, world)?;
-    match standings_or_fault(rt.alloc(), &world.schema, outcomes) {
+    let outcomes = read_outcomes(files, alloc, world)?;
+    match standings_or_fault(alloc, &world.schema, outcomes) {
         Ok(standings) => Ok(standings),
-        Err(fault) => Err(logs_fault(rt.alloc(), world, fault)),
+        Err(fault) => Err(logs_fault(alloc, world, fault)),
     }
 }
 
@@ -137,23 +148,31 @@ fn show_world(rt: &impl Print, world: &World, states: &[FieldState]) -> io::Resu
     show_states(rt, &world.schema, states)
 }
 
-// Checks the logs of all sites, and shows where each field stands by them.
-fn check_logs(rt: &HostRuntime, world: &World) -> Result<(), Fault> {
-    let alloc = rt.alloc();
-    let standings = read_standings(rt, world)?;
-    let states = match check_standings(alloc, &world.schema, standings.as_slice()) {
-        Ok(states) => states,
-        Err(fault) => return Err(logs_fault(alloc, world, fault)),
-    };
-    match show_world(rt, world, states.as_slice()) {
-        Ok(()) => Ok(()),
-        Err(_) => Err(Fault::Write),
+// Where each field stands by the logs of all sites, which account for every right.
+fn checked_states<R: ReadsFiles>(
+    files: &R,
+    alloc: Global,
+    world: &World,
+) -> Result<Vec<FieldState>, Fault>
+    ensures count { IfOk result (λ states. length states.items
+        ≡ length world.now.schema.fields) }
+    ensures accounts { IfOk result (λ states. AccountsFor (R.holds files.now)
+        world.now.folders.items world.now.schema states.items) }
+{
+    let standings = read_standings(files, alloc, world)?;
+    match check_standings(alloc, &world.schema, standings.as_slice()) {
+        Ok(states) => Ok(states),
+        Err(fault) => Err(logs_fault(alloc, world, fault)),
     }
 }
 
 /// Checks the logs of all sites of a world together, and shows where each field stands by them. They
 /// are read without their locks.
 pub(crate) fn check(rt: &HostRuntime, folders: &[String]) -> Result<(), Fault> {
-    let world = read_world(rt, folders)?;
-    check_logs(rt, &world)
+    let world = read_world(rt, rt.alloc(), folders)?;
+    let states = checked_states(rt, rt.alloc(), &world)?;
+    match show_world(rt, &world, states.as_slice()) {
+        Ok(()) => Ok(()),
+        Err(_) => Err(Fault::Write),
+    }
 }

@@ -1,17 +1,21 @@
 //! A site's folder: where its files lie, and what they hold.
 
-ghost use Rattle.std.specs.Prelude.{◌<◌, IfOk};
-ghost use Rattle.escrow_site.specs.Folders.{TellsOutcome};
+ghost use Rattle.std.specs.Prelude.{◌≡◌, ◌++◌, ◌<◌, codes, IfOk, string_bytes};
+ghost use Rattle.site_folder.specs.Identity.{identity_text};
+ghost use Rattle.folder_logs.specs.Files.{HoldsRecords, bytes_of};
+ghost use Rattle.escrow_site.specs.Folders.{ArePathsOf, path_in};
+ghost use Rattle.escrow_site.specs.Logs.{CountsLog, ReplaysLog};
+ghost use Rattle.escrow_site.specs.Reading.{IsRead};
 
 use crate::fault::{Fault, Why, failed, header_words, refused};
+use crate::reading::ReadsFiles;
 use field_bounds::{Schema, SiteNo};
 use file_medium::{HostFile, OpenLogFault, Opening, open_log};
+use folder_logs::{LogFault, Records, records_of_log, replay_records};
 use kept_records::{LogCount, count_log};
-use log_replay::{LogReplayed, replay_log};
-use sealed_text::{TextFault, Unsealed, unseal};
-use site_folder::{Identity, IdentityFault, log_name, read_identity, sealed_log_name};
+use log_replay::LogReplayed;
+use site_folder::{Identity, IdentityFault, read_identity};
 use std::alloc::{AllocError, Global};
-use std::fs;
 use std::io::ErrorKind;
 
 /// The paths of a folder and of its files.
@@ -30,7 +34,9 @@ pub(crate) struct Paths {
 }
 
 // The path of a file in a folder.
-fn path_in(alloc: Global, folder: &str, name: &str) -> Result<String, AllocError> {
+fn path_in(alloc: Global, folder: &str, name: &str) -> Result<String, AllocError>
+    ensures { IfOk result (λ path. string_bytes path ≡ path_in folder.now name.now) }
+{
     let mut path = String::from_str(alloc, folder)?;
     path.push_str("/")?;
     path.push_str(name)?;
@@ -38,7 +44,9 @@ fn path_in(alloc: Global, folder: &str, name: &str) -> Result<String, AllocError
 }
 
 impl Paths {
-    pub(crate) fn new(alloc: Global, folder: &str) -> Result<Paths, AllocError> {
+    pub(crate) fn new(alloc: Global, folder: &str) -> Result<Paths, AllocError>
+        ensures { IfOk result (ArePathsOf folder.now) }
+    {
         Ok(Paths {
             folder: String::from_str(alloc, folder)?,
             above: path_in(alloc, folder, "..")?,
@@ -52,13 +60,18 @@ impl Paths {
 }
 
 /// The bytes of a file of the folder, or why it is refused where it isn't there.
-pub(crate) fn read_file(rt: &HostRuntime, path: &str, missing: Why) -> Result<Vec<u8>, Fault> {
-    match fs::read(rt, path) {
+pub(crate) fn read_file<R: ReadsFiles>(
+    files: &R,
+    alloc: Global,
+    path: &str,
+    missing: Why,
+) -> Result<Vec<u8>, Fault>
+    ensures read { IfOk result (λ bytes. IsRead (R.holds files.now) path.now bytes.items) }
+{
+    match files.read(path) {
         Ok(bytes) => Ok(bytes),
-        Err(error) if error.kind() == ErrorKind::NotFound => {
-            Err(refused(rt.alloc(), path, missing))
-        }
-        Err(error) => Err(failed(rt.alloc(), path, error)),
+        Err(error) if error.kind() == ErrorKind::NotFound => Err(refused(alloc, path, missing)),
+        Err(error) => Err(failed(alloc, path, error)),
     }
 }
 
@@ -76,9 +89,15 @@ fn why_refused(fault: IdentityFault) -> Option<Why> {
 }
 
 /// Who the folder belongs to.
-pub(crate) fn read_site(rt: &HostRuntime, paths: &Paths) -> Result<Identity, Fault> {
-    let alloc = rt.alloc();
-    let text = read_file(rt, paths.site.as_str(), Why::NoSite)?;
+pub(crate) fn read_site<R: ReadsFiles>(
+    files: &R,
+    alloc: Global,
+    paths: &Paths,
+) -> Result<Identity, Fault>
+    ensures read { IfOk result (λ identity. IsRead (R.holds files.now)
+        (string_bytes paths.now.site) (identity_text identity)) }
+{
+    let text = read_file(files, alloc, paths.site.as_str(), Why::NoSite)?;
     match read_identity(alloc, text.as_slice()) {
         Ok(identity) => Ok(identity),
         Err(fault) => match why_refused(fault) {
@@ -93,24 +112,6 @@ pub(crate) fn bad_record(alloc: Global, paths: &Paths, line: u64) -> Fault {
     refused(alloc, paths.log.as_str(), Why::BadRecord(line))
 }
 
-/// The records of a log.
-#[derive(Drop)]
-pub(crate) enum Records<'a> {
-    /// Those of version 1, as they stand in the file.
-    Plain(&'a [u8]),
-    /// Those of version 2 that sums close.
-    Unsealed(Unsealed),
-}
-
-impl Records<'_> {
-    pub(crate) fn as_slice(&self) -> &[u8] {
-        match self {
-            Records::Plain(records) => records,
-            Records::Unsealed(unsealed) => unsealed.records.as_slice(),
-        }
-    }
-}
-
 // How many lines the name of a log of version 2 has.
 const NAME_LINES: u64 = 5;
 
@@ -120,67 +121,21 @@ pub(crate) fn damaged_batch(alloc: Global, paths: &Paths, line: u64) -> Fault {
     refused(alloc, paths.log.as_str(), why)
 }
 
-// The records of a log of version 2, behind its name.
-fn unseal_log(alloc: Global, paths: &Paths, text: &[u8]) -> Result<Unsealed, Fault> {
-    match unseal(alloc, text) {
-        Ok(unsealed) => Ok(unsealed),
-        Err(TextFault::Damaged { line }) => Err(damaged_batch(alloc, paths, line)),
-        Err(TextFault::NoMemory) => Err(Fault::NoMemory),
-    }
-}
-
 /// The records of a log's file, behind its name, which tells its version.
 pub(crate) fn records_in<'a>(
     alloc: Global,
     paths: &Paths,
     identity: &Identity,
     bytes: &'a [u8],
-) -> Result<Records<'a>, Fault> {
-    let name = sealed_log_name(alloc, identity)?;
-    if let Some(text) = bytes.strip_prefix(name.as_slice()) {
-        return Ok(Records::Unsealed(unseal_log(alloc, paths, text)?));
-    }
-    let name = log_name(alloc, identity)?;
-    match bytes.strip_prefix(name.as_slice()) {
-        Some(records) => Ok(Records::Plain(records)),
-        None => Err(refused(alloc, paths.log.as_str(), Why::OtherLog)),
-    }
-}
-
-// What records come to of which this line is the first that is none: a rule may be broken in front of it.
-fn first_fault(
-    alloc: Global,
-    schema: &Schema,
-    site: SiteNo,
-    records: &[u8],
-    line: u64,
-) -> Result<LogReplayed, AllocError>
-    requires site_in { site.0 < schema.now.sites }
-    ensures outcome { IfOk result (TellsOutcome schema.now site.0) }
+) -> Result<Records<'a>, Fault>
+    ensures held { IfOk result (λ records. HoldsRecords identity.now bytes.now
+        (bytes_of records)) }
 {
-    let good = count_log(alloc, records)?.length.min(records.len());
-    match replay_log(alloc, schema, site, &records[..good])? {
-        LogReplayed::BreaksRule { number } => Ok(LogReplayed::BreaksRule { number }),
-        LogReplayed::Standing { .. } | LogReplayed::BadLine { .. } => {
-            Ok(LogReplayed::BadLine { number: line })
-        }
-    }
-}
-
-// What the records of a site come to: what they stand for, or the first line that is no record or breaks
-// a rule. Costs a pass over them, and where there is a line that is none two more.
-fn replay_records(
-    alloc: Global,
-    schema: &Schema,
-    site: SiteNo,
-    records: &[u8],
-) -> Result<LogReplayed, AllocError>
-    requires site_in { site.0 < schema.now.sites }
-    ensures outcome { IfOk result (TellsOutcome schema.now site.0) }
-{
-    match replay_log(alloc, schema, site, records)? {
-        LogReplayed::BadLine { number } => first_fault(alloc, schema, site, records, number),
-        replayed => Ok(replayed),
+    match records_of_log(alloc, identity, bytes) {
+        Ok(records) => Ok(records),
+        Err(LogFault::Other) => Err(refused(alloc, paths.log.as_str(), Why::OtherLog)),
+        Err(LogFault::Damaged { line }) => Err(damaged_batch(alloc, paths, line)),
+        Err(LogFault::NoMemory) => Err(Fault::NoMemory),
     }
 }
 
@@ -202,13 +157,16 @@ fn refuse_line(
 
 /// How many records the log of the folder holds, each line of which is one. It is read without its
 /// lock.
-pub(crate) fn count_records(
-    rt: &HostRuntime,
+pub(crate) fn count_records<R: ReadsFiles>(
+    files: &R,
+    alloc: Global,
     paths: &Paths,
     identity: &Identity,
-) -> Result<LogCount, Fault> {
-    let alloc = rt.alloc();
-    let bytes = read_file(rt, paths.log.as_str(), Why::NoLog)?;
+) -> Result<LogCount, Fault>
+    ensures counted { IfOk result (CountsLog (R.holds files.now) (string_bytes paths.now.log)
+        identity.now) }
+{
+    let bytes = read_file(files, alloc, paths.log.as_str(), Why::NoLog)?;
     let records = records_in(alloc, paths, identity, bytes.as_slice())?;
     let count = count_log(alloc, records.as_slice())?;
     match count.bad_line {
@@ -219,18 +177,19 @@ pub(crate) fn count_records(
 
 /// What the log of the folder comes to as that of this site under this schema. It is read without its
 /// lock.
-pub(crate) fn replay_folder(
-    rt: &HostRuntime,
+pub(crate) fn replay_folder<R: ReadsFiles>(
+    files: &R,
+    alloc: Global,
     paths: &Paths,
     identity: &Identity,
     schema: &Schema,
     site: SiteNo,
 ) -> Result<LogReplayed, Fault>
     requires site_in { site.0 < schema.now.sites }
-    ensures outcome { IfOk result (TellsOutcome schema.now site.0) }
+    ensures replayed { IfOk result (ReplaysLog (R.holds files.now) (string_bytes paths.now.log)
+        identity.now schema.now site.0) }
 {
-    let alloc = rt.alloc();
-    let bytes = read_file(rt, paths.log.as_str(), Why::NoLog)?;
+    let bytes = read_file(files, alloc, paths.log.as_str(), Why::NoLog)?;
     let records = records_in(alloc, paths, identity, bytes.as_slice())?;
     Ok(replay_records(alloc, schema, site, records.as_slice())?)
 }

@@ -174,7 +174,7 @@ impl Histories for TraceWindows<'_> {
 // refused as it is by `weave`.
 fn open_trace(rt: &HostRuntime, folder: &SiteFolder) -> Result<TraceWindow, Fault> {
     let alloc = rt.alloc();
-    let left = read_kept_entries(rt, &folder.paths, &folder.identity)?.len();
+    let left = read_kept_entries(rt, alloc, &folder.paths, &folder.identity)?.len();
     let name = trace_name(alloc, &folder.identity)?;
     Ok(TraceWindow {
         path: String::from_str(alloc, folder.paths.trace.as_str())?,
@@ -234,7 +234,7 @@ fn status_of(verdict: Verdict) -> u8 {
 /// locks, each trace twice: once to count the entries that count, and once by windows, so that no
 /// more than a window of each is held.
 pub(crate) fn judge_folders(rt: &HostRuntime, folders: &[String]) -> Result<u8, Fault> {
-    let world = read_world(rt, folders)?;
+    let world = read_world(rt, rt.alloc(), folders)?;
     let (verdict, count) = judge_sites(rt, &world)?;
     let line = verdict_line(rt.alloc(), verdict, count)?;
     match Watched::new(rt.stdout()).write_all(line.as_bytes()) {

@@ -10,6 +10,7 @@ mod folder;
 mod judging;
 mod opening;
 mod progress;
+mod reading;
 mod serving;
 mod settling;
 mod showing;

@@ -1,6 +1,12 @@
 //! The log of a folder, opened to be added to: behind its name, and in version 2 in batches that sums
 //! close.
 
+ghost use Rattle.std.specs.Prelude.{◌≡◌, length, IfOk, IfSome, IfNone};
+ghost use Rattle.file_medium.specs.Files.{KeepsFront};
+ghost use Rattle.named_log.specs.Names.{IsNot, Opens, behind, count_behind};
+ghost use Rattle.sealed_log.specs.Sealed.{KeepsAll, Opens as OpensSealed, Refuses, SparesClosed};
+ghost use Rattle.sealed_log.specs.declared.fault.SealFault.TheVariants.{Ended};
+
 use crate::fault::{Fault, device_fault};
 use crate::folder::{Paths, damaged_batch};
 use file_medium::LogFile;
@@ -14,7 +20,14 @@ pub(crate) fn open_named<F: LogFile + Drop>(
     paths: &Paths,
     file: F,
     name: &[u8],
-) -> Result<Option<NamedLog<F>>, Fault> {
+) -> Result<Option<NamedLog<F>>, Fault>
+    ensures opens { IfOk result (λ told. IfSome told (Opens (F.bytes file) name.now)) }
+    ensures other { IfOk result (λ told. IfNone told (IsNot (F.bytes file) name.now)) }
+    ensures kept { IfOk result (λ told. IfSome told (λ log. KeepsFront
+        (behind (length name.now) (F.safe file)) log.safe)) }
+    ensures least { IfOk result (λ told. IfSome told (λ log. log.least
+        ≡ count_behind (length name.now) (F.least file))) }
+{
     match NamedLog::open(file, name) {
         Ok(log) => Ok(Some(log)),
         Err((NameFault::Other, _file)) => Ok(None),
@@ -27,7 +40,14 @@ pub(crate) fn open_sealed<F: LogFile + Drop>(
     alloc: Global,
     paths: &Paths,
     log: NamedLog<F>,
-) -> Result<Option<SealedLog<NamedLog<F>>>, Fault> {
+) -> Result<Option<SealedLog<NamedLog<F>>>, Fault>
+    ensures opens { IfOk result (λ told. IfSome told (OpensSealed log.bytes)) }
+    ensures ended { IfOk result (λ told. IfNone told (Refuses log.bytes Ended)) }
+    ensures keeps { IfOk result (λ told. IfSome told (λ sealed. KeepsAll log.safe
+        sealed.file_safe)) }
+    ensures spares { IfOk result (λ told. IfSome told (λ sealed. SparesClosed log.bytes log.least
+        sealed.file_least)) }
+{
     match SealedLog::open(alloc, log) {
         Ok(log) => Ok(Some(log)),
         Err((SealFault::Damaged { line }, _file)) => Err(damaged_batch(alloc, paths, line)),

@@ -1,10 +1,18 @@
 //! The command `serve`.
 
+ghost use Rattle.std.specs.Prelude.{◌≡◌, IfOk, OnOk, OnErr, string_bytes};
+ghost use Rattle.script_input.specs.Streams.{GaveNothing};
+ghost use Rattle.site_service.specs.Opening.{IsOpened, KeepsLines, SparesLines};
+ghost use Rattle.site_service.specs.Service.{IsSettled};
+ghost use Rattle.site_service.specs.Traces.{trace_of, HasTold};
+ghost use Rattle.escrow_site.specs.Serving.{IsNoOlder, IsStandRead, ServesReady, StopsAtReady, StopsReady, TellsReady, ready_text};
+
 use crate::closing::{is_settled, settled_fault};
 use crate::creating::sync_site;
 use crate::fault::{Fault, Why, device_fault, refused, with_call};
 use crate::folder::{Paths, lock_log, read_file, read_site, records_in};
 use crate::opening::{open_named, open_sealed};
+use crate::reading::ReadsFiles;
 use crate::tracing::trace_for;
 use crate::unsynced::{TellsFault, UnsyncedFile};
 use file_medium::{FileFault, HostFile, LogFile};
@@ -16,27 +24,33 @@ use site_service::{NoTrace, OpenFault, ServeFault, Service, serve};
 use site_tasks::Serving;
 use std::alloc::Global;
 
-// How far the log has come that a file holds.
-fn stand_in(
+// How far the log of the folder has come. It is read without its lock.
+fn read_stand<R: ReadsFiles>(
+    files: &R,
     alloc: Global,
     paths: &Paths,
     identity: &Identity,
-    bytes: &[u8],
-) -> Result<Stand, Fault> {
-    let records = records_in(alloc, paths, identity, bytes)?;
+) -> Result<Stand, Fault>
+    ensures stand { IfOk result (IsStandRead (R.holds files.now) (string_bytes paths.now.log)
+        identity.now) }
+{
+    let bytes = read_file(files, alloc, paths.log.as_str(), Why::NoLog)?;
+    let records = records_in(alloc, paths, identity, bytes.as_slice())?;
     Ok(stand_of(alloc, records.as_slice())?)
 }
 
 // Refuses a log that is older than was seen of it before. It stays as it is.
-fn check_age(
-    rt: &HostRuntime,
+fn check_age<R: ReadsFiles>(
+    files: &R,
+    alloc: Global,
     paths: &Paths,
     identity: &Identity,
     seen: Stand,
-) -> Result<(), Fault> {
-    let alloc = rt.alloc();
-    let bytes = read_file(rt, paths.log.as_str(), Why::NoLog)?;
-    let stand = stand_in(alloc, paths, identity, bytes.as_slice())?;
+) -> Result<(), Fault>
+    ensures newest { OnOk result (IsNoOlder (R.holds files.now) (string_bytes paths.now.log)
+        identity.now seen) }
+{
+    let stand = read_stand(files, alloc, paths, identity)?;
     if stand.is_before(seen) {
         let why = Why::Old(stand.epoch, stand.length);
         return Err(refused(alloc, paths.log.as_str(), why));
@@ -51,7 +65,17 @@ fn open_service<F: LogFile + Drop, T: LogFile>(
     identity: &Identity,
     log: F,
     trace: &mut T,
-) -> Result<Service<F>, Fault> {
+) -> Result<Service<F>, Fault>
+    ensures opened { IfOk result (IsOpened identity.now.schema identity.now.number
+        (F.bytes log)) }
+    ensures kept { IfOk result (λ service. KeepsLines (F.bytes log) (F.safe log) service.safe) }
+    ensures spared { IfOk result (λ service. SparesLines (F.bytes log) (F.least log)
+        service.least) }
+    ensures told { IfOk result (λ service. HasTold
+        (trace_of (T.bytes trace.old) (T.safe trace.old))
+        (trace_of (T.bytes trace.new) (T.safe trace.new)) service.waiting) }
+    ensures uncut { T.least trace.new ≡ T.least trace.old }
+{
     let schema = identity.schema().copy()?;
     match Service::open(alloc, schema, identity.number(), log, trace) {
         Ok(service) => Ok(service),
@@ -64,7 +88,9 @@ fn open_service<F: LogFile + Drop, T: LogFile>(
 }
 
 // The line that tells how far the log has come.
-fn ready_line(alloc: Global, stand: Stand) -> Result<String, Fault> {
+fn ready_line(alloc: Global, stand: Stand) -> Result<String, Fault>
+    ensures text { IfOk result (λ line. string_bytes line ≡ ready_text stand) }
+{
     let mut line = String::new(alloc);
     let Stand { epoch, length } = stand;
     match writeln!(line, "ready 1 {epoch} {length}") {
@@ -78,7 +104,13 @@ fn write_ready<F: LogFile, W: Sink>(
     alloc: Global,
     service: &Service<F>,
     writer: &mut W,
-) -> Result<(), Fault> {
+) -> Result<(), Fault>
+    requires safe { IsSettled service.now }
+    ensures ready { OnOk result (TellsReady (W.bytes writer.old) (W.bytes writer.new)
+        service.now) }
+    ensures refused { OnErr result (StopsAtReady (W.bytes writer.old) (W.bytes writer.new)
+        service.now) }
+{
     let stand = stand_of(alloc, service.site().medium().bytes())?;
     let line = ready_line(alloc, stand)?;
     match writer.write_all(line.as_bytes()) {
@@ -107,7 +139,8 @@ fn serve_fault(alloc: Global, path: &str, fault: ServeFault) -> Fault {
     }
 }
 
-// Writes the first line of all, and serves the site to the end of the input.
+// Writes the first line of all, and serves the site to the end of the input: all that it stands on is
+// safe by then, and nothing is written but that line and what `serve` lets out.
 fn serve_streams<F: LogFile, T: LogFile, R: Source, W: Sink>(
     alloc: Global,
     paths: &Paths,
@@ -115,7 +148,18 @@ fn serve_streams<F: LogFile, T: LogFile, R: Source, W: Sink>(
     trace: &mut T,
     reader: &mut R,
     writer: &mut W,
-) -> Result<(), Fault> {
+) -> Result<(), Fault>
+    requires safe { IsSettled service.old }
+    ensures ok { OnOk result (ServesReady (R.bytes reader.old) (R.bytes reader.new)
+        (W.bytes writer.old) (W.bytes writer.new) (trace_of (T.bytes trace.old) (T.safe trace.old))
+        (trace_of (T.bytes trace.new) (T.safe trace.new)) service.old service.new) }
+    ensures end { OnOk result (GaveNothing (R.last reader.new)) }
+    ensures err { OnErr result (StopsReady (R.bytes reader.old) (R.bytes reader.new)
+        (W.bytes writer.old) (W.bytes writer.new) (trace_of (T.bytes trace.old) (T.safe trace.old))
+        (trace_of (T.bytes trace.new) (T.safe trace.new)) service.old service.new) }
+    ensures least { service.new.least ≡ service.old.least }
+    ensures uncut { T.least trace.new ≡ T.least trace.old }
+{
     write_ready(alloc, service, writer)?;
     match serve(alloc, service, trace, reader, writer) {
         Ok(()) => Ok(()),
@@ -305,7 +349,7 @@ fn trace_beside(
     how: Serving,
 ) -> Result<Option<HostFile>, Fault> {
     if let Some(seen) = how.not_before {
-        check_age(rt, paths, identity, seen)?;
+        check_age(rt, rt.alloc(), paths, identity, seen)?;
     }
     trace_for(rt, paths, identity, how.is_traced)
 }
@@ -342,6 +386,6 @@ fn serve_site(
 /// isn't synced, what is answered may be lost by a stop of the machine.
 pub(crate) fn serve_folder(rt: &HostRuntime, folder: &str, how: Serving) -> Result<(), Fault> {
     let paths = Paths::new(rt.alloc(), folder)?;
-    let identity = read_site(rt, &paths)?;
+    let identity = read_site(rt, rt.alloc(), &paths)?;
     serve_site(rt, &paths, &identity, how)
 }

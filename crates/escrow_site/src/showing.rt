@@ -1,13 +1,15 @@
 //! The command `show`.
 
-ghost use Rattle.std.specs.Prelude.{◌≡◌, ◌≤◌, ◌<◌, length, pos, neg_ℤ, IfOk, ◌+ℤ◌, ◌-ℤ◌, ◌≤ℤ◌};
+ghost use Rattle.std.specs.Prelude.{◌≡◌, ◌≤◌, ◌<◌, length, pos, neg_ℤ, IfOk, ◌+ℤ◌, ◌-ℤ◌, ◌≤ℤ◌, string_bytes};
 ghost use Rattle.field_bounds.specs.Limits.{max_quantity};
 ghost use Rattle.field_bounds.specs.Owed.{max_change};
 ghost use Rattle.field_bounds.specs.Parts.{field_at};
 ghost use Rattle.site_rights.specs.Rights.{guarded_at};
+ghost use Rattle.escrow_site.specs.Logs.{ShowsLog};
 
 use crate::fault::Fault;
 use crate::folder::{Paths, bad_record, read_site, replay_folder};
+use crate::reading::ReadsFiles;
 use field_bounds::{FieldNo, Kind, Schema, SiteNo};
 use gift_ledger::{FieldAccounts, Ledger};
 use log_replay::{LogReplayed, Standing};
@@ -24,14 +26,28 @@ struct Shown {
 }
 
 // Takes in the records of the log.
-fn read_records(rt: &HostRuntime, paths: &Paths, identity: &Identity) -> Result<Shown, Fault>
+fn read_records<R: ReadsFiles>(
+    files: &R,
+    alloc: Global,
+    paths: &Paths,
+    identity: &Identity,
+) -> Result<Shown, Fault>
     ensures fields { IfOk result (λ shown. length shown.standing.rights
         ≡ length identity.now.schema.fields) }
+    ensures shown { IfOk result (λ shown. ShowsLog (R.holds files.now)
+        (string_bytes paths.now.log) identity.now shown.standing shown.length) }
 {
-    match replay_folder(rt, paths, identity, identity.schema(), identity.number())? {
+    match replay_folder(
+        files,
+        alloc,
+        paths,
+        identity,
+        identity.schema(),
+        identity.number(),
+    )? {
         LogReplayed::Standing { standing, length } => Ok(Shown { length, standing }),
         LogReplayed::BadLine { number } | LogReplayed::BreaksRule { number } => {
-            Err(bad_record(rt.alloc(), paths, number))
+            Err(bad_record(alloc, paths, number))
         }
     }
 }
@@ -160,7 +176,7 @@ fn show_log(rt: &impl Print, identity: &Identity, world: &str, shown: &Shown) ->
 
 // Shows what the log of a site stands for.
 fn show_folder(rt: &HostRuntime, paths: &Paths, identity: &Identity) -> Result<(), Fault> {
-    let shown = read_records(rt, paths, identity)?;
+    let shown = read_records(rt, rt.alloc(), paths, identity)?;
     let world = identity.world(rt.alloc())?;
     match show_log(rt, identity, world.as_str(), &shown) {
         Ok(()) => Ok(()),
@@ -171,6 +187,6 @@ fn show_folder(rt: &HostRuntime, paths: &Paths, identity: &Identity) -> Result<(
 /// Shows what the log of a folder stands for. It is read without its lock.
 pub(crate) fn show(rt: &HostRuntime, folder: &str) -> Result<(), Fault> {
     let paths = Paths::new(rt.alloc(), folder)?;
-    let identity = read_site(rt, &paths)?;
+    let identity = read_site(rt, rt.alloc(), &paths)?;
     show_folder(rt, &paths, &identity)
 }

@@ -1,9 +1,17 @@
 //! The trace of a served site, beside its log.
 
+ghost use Rattle.std.specs.Prelude.{◌≡◌, ◌++◌, IfOk, OnOk, string_bytes};
+ghost use Rattle.file_medium.specs.Files.{cut_known};
+ghost use Rattle.site_folder.specs.Identity.{trace_name};
+ghost use Rattle.escrow_site.specs.Traces.{AreEntriesRead, IsCutRead, IsOfFile, IsTraceEnd, kept_of};
+
 use crate::fault::{Fault, Why, device_fault, failed, refused, with_call};
 use crate::folder::{Paths, count_records, file_fault, read_file};
+use crate::reading::ReadsFiles;
+use crate::unsynced::TellsFault;
 use field_bounds::{Entry, Schema};
-use file_medium::{FileFailed, HostFile, LogFile, Opening, open_log};
+use file_medium::{FileFailed, HostFile, Opening, open_log};
+use folder_logs::trace_text;
 use site_folder::{Identity, trace_name};
 use site_trace::{TraceEnd, TraceFault, kept_entries, read_trace, trace_end_at};
 use std::alloc::Global;
@@ -26,9 +34,10 @@ fn behind_trace_name<'a>(
     paths: &Paths,
     identity: &Identity,
     bytes: &'a [u8],
-) -> Result<&'a [u8], Fault> {
-    let name = trace_name(alloc, identity)?;
-    match bytes.strip_prefix(name.as_slice()) {
+) -> Result<&'a [u8], Fault>
+    ensures text { IfOk result (λ text. bytes.now ≡ trace_name identity.now ++ text.now) }
+{
+    match trace_text(alloc, identity, bytes)? {
         Some(text) => Ok(text),
         None => Err(refused(alloc, paths.trace.as_str(), Why::OtherTrace)),
     }
@@ -54,7 +63,9 @@ fn end_at(
     schema: &Schema,
     text: &[u8],
     kept: usize,
-) -> Result<TraceEnd, Fault> {
+) -> Result<TraceEnd, Fault>
+    ensures end { IfOk result (IsTraceEnd schema.now text.now kept) }
+{
     let trace = match read_trace(alloc, schema, text) {
         Ok(trace) => trace,
         Err(fault) => return Err(trace_fault(alloc, paths, fault)),
@@ -67,10 +78,17 @@ fn end_at(
 
 // Where the trace of a folder is cut back to the folder's log. Both are read without locks, the log
 // first: so the trace of a site that is being served isn't behind it.
-fn read_cut(rt: &HostRuntime, paths: &Paths, identity: &Identity) -> Result<TraceCut, Fault> {
-    let alloc = rt.alloc();
-    let log = count_records(rt, paths, identity)?;
-    let bytes = read_file(rt, paths.trace.as_str(), Why::NoTrace)?;
+fn read_cut<R: ReadsFiles>(
+    files: &R,
+    alloc: Global,
+    paths: &Paths,
+    identity: &Identity,
+) -> Result<TraceCut, Fault>
+    ensures cut { IfOk result (IsCutRead (R.holds files.now) (string_bytes paths.now.log)
+        (string_bytes paths.now.trace) identity.now) }
+{
+    let log = count_records(files, alloc, paths, identity)?;
+    let bytes = read_file(files, alloc, paths.trace.as_str(), Why::NoTrace)?;
     let text = behind_trace_name(alloc, paths, identity, bytes.as_slice())?;
     let end = end_at(alloc, paths, identity.schema(), text, log.plain)?;
     Ok(TraceCut {
@@ -82,14 +100,18 @@ fn read_cut(rt: &HostRuntime, paths: &Paths, identity: &Identity) -> Result<Trac
 
 /// The entries of the trace of a folder that its log has the records of. Both are read without
 /// locks, the log first.
-pub(crate) fn read_kept_entries(
-    rt: &HostRuntime,
+pub(crate) fn read_kept_entries<R: ReadsFiles>(
+    files: &R,
+    alloc: Global,
     paths: &Paths,
     identity: &Identity,
-) -> Result<Vec<Entry>, Fault> {
-    let alloc = rt.alloc();
-    let log = count_records(rt, paths, identity)?;
-    let bytes = read_file(rt, paths.trace.as_str(), Why::NoTrace)?;
+) -> Result<Vec<Entry>, Fault>
+    ensures read { IfOk result (λ entries. AreEntriesRead (R.holds files.now)
+        (string_bytes paths.now.log) (string_bytes paths.now.trace) identity.now
+        entries.items) }
+{
+    let log = count_records(files, alloc, paths, identity)?;
+    let bytes = read_file(files, alloc, paths.trace.as_str(), Why::NoTrace)?;
     let text = behind_trace_name(alloc, paths, identity, bytes.as_slice())?;
     match kept_entries(alloc, identity.schema(), text, log.plain) {
         Ok(Some(entries)) => Ok(entries),
@@ -114,7 +136,7 @@ fn put_trace(rt: &HostRuntime, paths: &Paths, name: &[u8]) -> io::Result<()> {
 // Makes a trace with no entries, for a log that holds no records. It is there whole, or not at all.
 fn make_trace(rt: &HostRuntime, paths: &Paths, identity: &Identity) -> Result<(), Fault> {
     let alloc = rt.alloc();
-    let log = count_records(rt, paths, identity)?;
+    let log = count_records(rt, alloc, paths, identity)?;
     if log.length > 0 {
         return Err(refused(alloc, paths.trace.as_str(), Why::NoTrace));
     }
@@ -142,12 +164,16 @@ fn open_trace(rt: &HostRuntime, paths: &Paths) -> Result<HostFile, Fault> {
 }
 
 // Cuts the file of a trace back, where it holds more than stays.
-fn cut_back(
+fn cut_back<T: TellsFault>(
     alloc: Global,
     paths: &Paths,
-    file: &mut HostFile,
+    file: &mut T,
     cut: &TraceCut,
-) -> Result<(), Fault> {
+) -> Result<(), Fault>
+    requires sized { IsOfFile cut.now (T.bytes file.old) }
+    ensures cut { OnOk result (T.bytes file.new ≡ cut_known (kept_of cut.now)
+        (T.bytes file.old)) }
+{
     let length = cut.name.saturating_add(cut.end.length);
     if length >= cut.length {
         return Ok(());
@@ -168,7 +194,7 @@ fn settle_trace(
     identity: &Identity,
     file: &mut HostFile,
 ) -> Result<(), Fault> {
-    let cut = read_cut(rt, paths, identity)?;
+    let cut = read_cut(rt, rt.alloc(), paths, identity)?;
     cut_back(rt.alloc(), paths, file, &cut)
 }
 

@@ -1,9 +1,10 @@
 //! The command `weave`.
 
 ghost use Rattle.std.specs.Prelude.{◌≤◌, IfOk, length};
+ghost use Rattle.escrow_site.specs.Traces.{AreHistoriesRead};
 
 use crate::fault::Fault;
-use crate::progress::tell_reading;
+use crate::reading::ReadsFiles;
 use crate::tracing::read_kept_entries;
 use crate::worlds::{World, read_world};
 use entry_text::append_entry;
@@ -16,15 +17,22 @@ use trace_weave::{WeaveFault, WovenEntries, weave_order};
 const PIECE: usize = 65_536;
 
 // The entries of all sites that their logs have the records of, in the order of the sites.
-fn read_histories(rt: &HostRuntime, world: &World) -> Result<Vec<Vec<Entry>>, Fault>
+fn read_histories<R: ReadsFiles>(
+    files: &R,
+    alloc: Global,
+    world: &World,
+) -> Result<Vec<Vec<Entry>>, Fault>
     ensures few { IfOk result (λ histories. length histories.items ≤ 65535) }
+    ensures read { IfOk result (λ histories. AreHistoriesRead (R.holds files.now)
+        world.now.folders.items world.now.schema histories.items) }
 {
-    let mut histories = Vec::new(rt.alloc());
+    let mut histories = Vec::new(alloc);
     for number in 0..world.schema.sites() {
         let site = SiteNo(number);
         let folder = world.named_folder(site)?;
-        tell_reading(rt, folder.paths.folder.as_str(), site, world.schema.sites());
-        histories.push(read_kept_entries(rt, &folder.paths, &folder.identity)?)?;
+        files.tell_reading(folder.paths.folder.as_str(), site, world.schema.sites());
+        let entries = read_kept_entries(files, alloc, &folder.paths, &folder.identity)?;
+        histories.push(entries)?;
     }
     Ok(histories)
 }
@@ -79,7 +87,7 @@ fn write_trace<W: Sink>(
 // Weaves the sites, and writes the trace.
 fn weave_sites(rt: &HostRuntime, world: &World) -> Result<(), Fault> {
     let alloc = rt.alloc();
-    let histories = read_histories(rt, world)?;
+    let histories = read_histories(rt, alloc, world)?;
     let order = order_of(alloc, histories.as_slice())?;
     let trace = WovenEntries::new(alloc, histories.as_slice(), order)?;
     let mut writer = Watched::new(rt.stdout());
@@ -89,6 +97,6 @@ fn weave_sites(rt: &HostRuntime, world: &World) -> Result<(), Fault> {
 /// Writes one trace of all sites of a world: the header line, and an entry a line, as an audit reads
 /// them. The folders are read without their locks, and nothing is written before all are read.
 pub(crate) fn weave_folders(rt: &HostRuntime, folders: &[String]) -> Result<(), Fault> {
-    let world = read_world(rt, folders)?;
+    let world = read_world(rt, rt.alloc(), folders)?;
     weave_sites(rt, &world)
 }

@@ -1,10 +1,15 @@
 //! The folders of the sites of one world.
 
+ghost use Rattle.std.specs.Prelude.{◌≡◌, IfOk, IfErr, OnOk, MatchOption};
+ghost use Rattle.escrow_site.specs.Folders.{AreSiteFolders, GoesWith, HasNoFolder, IsFolderOf, IsSiteFolder, IsWorldOf};
+
 use crate::fault::{Fault, Why, asked};
 use crate::folder::{Paths, read_site};
+use crate::reading::ReadsFiles;
 use field_bounds::{Schema, SiteNo};
+use folder_logs::{Apart, why_apart};
 use site_folder::Identity;
-use std::alloc::Global;
+use std::alloc::{AllocError, Global};
 
 /// A site's folder, and whose it is.
 #[derive(Drop)]
@@ -27,7 +32,10 @@ pub(crate) struct World {
 
 impl World {
     /// The folder of a site, or None where none was named.
-    pub(crate) fn folder(&self, site: SiteNo) -> Option<&SiteFolder> {
+    pub(crate) fn folder(&self, site: SiteNo) -> Option<&SiteFolder>
+        ensures own { MatchOption result (HasNoFolder self.now.folders.items site.0)
+            (λ folder. IsFolderOf self.now.folders.items site.0 folder.now) }
+    {
         for folder in &self.folders {
             if folder.identity.number() == site {
                 return Some(folder);
@@ -37,7 +45,12 @@ impl World {
     }
 
     /// The folder of a site, which has to be named.
-    pub(crate) fn named_folder(&self, site: SiteNo) -> Result<&SiteFolder, Fault> {
+    pub(crate) fn named_folder(&self, site: SiteNo) -> Result<&SiteFolder, Fault>
+        ensures own { IfOk result (λ folder. IsFolderOf self.now.folders.items site.0
+            folder.now) }
+        ensures none { IfErr result (λ fault. fault ≡ Fault.NoFolder site.0) }
+        ensures lacks { IfErr result (λ _. HasNoFolder self.now.folders.items site.0) }
+    {
         match self.folder(site) {
             Some(folder) => Ok(folder),
             None => Err(Fault::NoFolder(site.0)),
@@ -46,39 +59,31 @@ impl World {
 }
 
 // Whose folder it is.
-fn read_folder(rt: &HostRuntime, folder: &str) -> Result<SiteFolder, Fault> {
-    let paths = Paths::new(rt.alloc(), folder)?;
-    let identity = read_site(rt, &paths)?;
+fn read_folder<R: ReadsFiles>(files: &R, alloc: Global, folder: &str) -> Result<SiteFolder, Fault>
+    ensures read { IfOk result (IsSiteFolder (R.holds files.now) folder.now) }
+{
+    let paths = Paths::new(alloc, folder)?;
+    let identity = read_site(files, alloc, &paths)?;
     Ok(SiteFolder { paths, identity })
 }
 
-// Whether two sites are of one world: its header is the same, and so is its own name, or it has none.
-fn are_of_one_world(site: &Identity, other: &Identity) -> bool {
-    site.name() == other.name() && site.header() == other.header()
-}
-
-// Why a folder doesn't go with another one.
-fn why_not_beside(
-    alloc: Global,
-    folder: &SiteFolder,
-    other: &SiteFolder,
-) -> Result<Option<Why>, Fault> {
-    if !are_of_one_world(&folder.identity, &other.identity) {
-        let other = String::from_str(alloc, other.paths.folder.as_str())?;
-        return Ok(Some(Why::OtherWorld(other)));
+// Why a folder doesn't go with another one, in words.
+fn words_of(alloc: Global, apart: Apart, site: SiteNo, other: &str) -> Result<Why, AllocError> {
+    let other = String::from_str(alloc, other)?;
+    match apart {
+        Apart::World => Ok(Why::OtherWorld(other)),
+        Apart::Site => Ok(Why::SameSite(site.0, other)),
     }
-    let number = folder.identity.number();
-    if number == other.identity.number() {
-        let other = String::from_str(alloc, other.paths.folder.as_str())?;
-        return Ok(Some(Why::SameSite(number.0, other)));
-    }
-    Ok(None)
 }
 
 // Refuses a folder of another world than those before it, or of the site of one of them.
-fn check_beside(alloc: Global, before: &[SiteFolder], folder: &SiteFolder) -> Result<(), Fault> {
+fn check_beside(alloc: Global, before: &[SiteFolder], folder: &SiteFolder) -> Result<(), Fault>
+    ensures beside { OnOk result (GoesWith before.now folder.now) }
+{
     for other in before {
-        if let Some(why) = why_not_beside(alloc, folder, other)? {
+        if let Some(apart) = why_apart(&folder.identity, &other.identity) {
+            let other = other.paths.folder.as_str();
+            let why = words_of(alloc, apart, folder.identity.number(), other)?;
             return Err(asked(alloc, folder.paths.folder.as_str(), why));
         }
     }
@@ -86,11 +91,17 @@ fn check_beside(alloc: Global, before: &[SiteFolder], folder: &SiteFolder) -> Re
 }
 
 // The folders, each of which goes with those before it.
-fn read_folders(rt: &HostRuntime, named: &[String]) -> Result<Vec<SiteFolder>, Fault> {
-    let alloc = rt.alloc();
+fn read_folders<R: ReadsFiles>(
+    files: &R,
+    alloc: Global,
+    named: &[String],
+) -> Result<Vec<SiteFolder>, Fault>
+    ensures folders { IfOk result (λ folders. AreSiteFolders (R.holds files.now) named.now
+        folders.items) }
+{
     let mut folders = Vec::new(alloc);
     for name in named {
-        let folder = read_folder(rt, name.as_str())?;
+        let folder = read_folder(files, alloc, name.as_str())?;
         check_beside(alloc, folders.as_slice(), &folder)?;
         folders.push(folder)?;
     }
@@ -100,9 +111,14 @@ fn read_folders(rt: &HostRuntime, named: &[String]) -> Result<Vec<SiteFolder>, F
 /// The world of the folders that were named: refused where one is no site's folder, or not of the
 /// world of those before it, or of the site of one of them. Which sites have no folder is for the
 /// caller to ask. Reads no log, and takes no lock.
-pub(crate) fn read_world(rt: &HostRuntime, named: &[String]) -> Result<World, Fault> {
-    let alloc = rt.alloc();
-    let folders = read_folders(rt, named)?;
+pub(crate) fn read_world<R: ReadsFiles>(
+    files: &R,
+    alloc: Global,
+    named: &[String],
+) -> Result<World, Fault>
+    ensures world { IfOk result (IsWorldOf (R.holds files.now) named.now) }
+{
+    let folders = read_folders(files, alloc, named)?;
     let Some(first) = folders.first() else {
         return Err(Fault::NoFolder(0));
     };

@@ -1,13 +1,13 @@
 use Rattle.std.proofs.Common.{◌≡◌, ◌<◌, ℕ, length}
 use Rattle.std.specs.Prelude.{slice_index_or, Err}
-use Rattle.world_logs.specs.Body.{StandsForLog}
-use Rattle.world_logs.specs.Outcomes.{IsOutcome}
+use Rattle.escrow_site.specs.Logs.{IsOutcomeRead}
 use Rattle.escrow_site.proofs.checking.read_outcomes.Given as goal
 
 -- there is what the logs so far came to
 abbrev pub invariant-loop-number : goal.invariant-loop-number
-invariant-loop-number l = record {
+invariant-loop-number g l = record {
   count : length l.outcomes.items ≡ l.number;
   each : (s : ℕ) → s < l.number
-      → IsOutcome l.fn.world.schema (StandsForLog l.fn.world.schema) s (slice_index_or l.outcomes.items s (Err 0));
+      → IsOutcomeRead (g.R.ReadsFiles.holds l.fn.files) l.fn.world.folders.items l.fn.world.schema s
+      (slice_index_or l.outcomes.items s (Err 0));
 }

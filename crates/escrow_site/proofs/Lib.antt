@@ -1,0 +1,5 @@
+mod Pushed
+mod FolderLemmas
+mod ReadLogs
+mod Gathered
+mod Ready
