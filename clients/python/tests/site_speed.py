@@ -78,7 +78,7 @@ def served(place: str, tasks: int, seconds: float, sell: Sell = change, metrics:
 def alone(place: str, seconds: float) -> Rate:
     """The program, driven by `bench/store.py`."""
     store.MOST = int(600_000 * max(1.0, seconds))
-    row = next(row for row in store.site_rows(place) if row.name == f"site {DEEP} deep")
+    row = next(row for row in store.site_rows(place, False) if row.name == f"site {DEEP} deep")
     computed = time.process_time()
     changes = row.measure(seconds)
     return Rate(changes, (time.process_time() - computed) / (changes * seconds) * 1e6)

@@ -358,7 +358,7 @@ class RefusedTest(SiteTest):
         site.change("stock", -1)  # the process has read its log, and goes on
         pid = pid_of(site)
         kill(site)
-        wait_until(lambda: is_ended(pid))
+        wait_until(lambda: is_ended(pid) and not site.up)
         for _ in range(3):
             with self.assertRaises(escrow.Down) as down:
                 site.change("stock", -1)
