@@ -35,7 +35,8 @@ def ask(pipeline: Pipeline, call: Call[T], end: float = NEVER) -> T:
     if end != NEVER and not waiter.comes(end - time.monotonic()):
         fault = pipeline.withdraw(call)
         pipeline.flush()
-        raise fault
+        if fault is not None:
+            raise fault
     return cast(T, waiter.wait())
 
 

@@ -8,7 +8,7 @@ from collections.abc import Callable, Sequence
 from typing import ClassVar, Generic, Optional, Protocol, TypeVar
 
 from .errors import Busy, EscrowError, Faulty, Over, Unknown, gone, refused
-from .values import Command, Outcome
+from .values import Command, Mark, Outcome
 from .waiters import Awaited
 
 T = TypeVar("T")
@@ -23,8 +23,14 @@ class Run(Protocol):
     """The number of the site."""
     epoch: int
 
+    run: int
+    """Which process it is, or which connection: later ones have greater numbers."""
+
     def new_id(self) -> str:
-        """What the next begin is answered with, where its line goes out next. Raises `EpochFull`."""
+        """What lines name the transaction by that the next begin opens, where its line goes out next. Raises `EpochFull`."""
+
+    def change_id(self) -> str:
+        """The same of a change in one trip; nothing where that is told later."""
 
     def standing(self, id: str) -> Standing:
         """Where a transaction stands in this process, by the lines that went out."""
@@ -74,6 +80,10 @@ class Call(Awaited, Generic[T]):
     def stopped(self) -> Over:
         """The process stopped before it was asked, and it is bound to it: what to raise."""
         return gone(None)
+
+    def door_text(self) -> str:
+        """The line that goes out to a door in place of its lines."""
+        return self.text
 
     def unasked(self) -> None:
         """Its time was up before its lines went out: they never will. Under the pipeline's lock."""
@@ -170,9 +180,11 @@ _FIRST = {
 class Shape:
     """What the lines of one change of a field, and their answers, have in common: the pieces between the ids."""
 
-    __slots__ = ("asked", "told")
+    __slots__ = ("asked", "told", "line")
 
     def __init__(self, number: int, field: str, change: int) -> None:
+        self.line = f"{number} change {field} {change}\n"
+        """The line of it that a door takes."""
         self.asked = (f"{number} begin\n{number} escrow ", f" {field} {change}\n{number} commit ", "\n")
         self.told = (
             f"{number} begin -> begun ",
@@ -205,10 +217,13 @@ class Change(Call[None]):
         return self.id.join(self.shape.told)
 
     def plan(self, run: Run) -> None:
-        self.id = run.new_id()
+        self.id = run.change_id()
+
+    def door_text(self) -> str:
+        return self.shape.line
 
     def doubt(self, front: str) -> EscrowError:
-        return Unknown(LATE, front + self.id)
+        return Unknown(LATE, front + self.id if self.id else None)
 
     def told(self, replies: Sequence[Reply]) -> None:
         _begun(replies[0], self.id)
@@ -222,13 +237,24 @@ class Changes(Call[None]):
     __slots__ = ("calls",)
     command = Command.CHANGE
 
-    def __init__(self, changes: Sequence[Change], ids: Sequence[str]) -> None:
-        for change, id in zip(changes, ids):
-            change.id = id
+    def __init__(self, changes: Sequence[Change]) -> None:
         self.calls, self.waiter = changes, changes[0].waiter
-        shapes = [change.shape for change in changes]
-        self.text = _between(ids, shapes[0].asked, [shape.asked[1] for shape in shapes])
+        self.expected = ""
+
+    def name(self, ids: Sequence[str]) -> None:
+        """They have these ids."""
+        for change, id in zip(self.calls, ids):
+            change.id = id
+        shapes = [change.shape for change in self.calls]
         self.expected = _between(ids, shapes[0].told, [shape.told[2] for shape in shapes])
+
+    def lines(self) -> str:
+        """What goes out, once they have ids."""
+        shapes = [change.shape for change in self.calls]
+        return _between([change.id for change in self.calls], shapes[0].asked, [shape.asked[1] for shape in shapes])
+
+    def door_text(self) -> str:
+        return "".join([change.shape.line for change in self.calls])
 
 
 def _between(ids: Sequence[str], pieces: Sequence[str], own: Sequence[str]) -> str:
@@ -252,6 +278,12 @@ class Account(Protocol):
     line_id: str
     id: str
 
+    def named(self, line_id: str) -> None:
+        """The site names it so: told where its begin went out before that was known."""
+
+    def displaced(self) -> Optional[Over]:
+        """Its begin went out, and isn't made for want of a place: it waits for one. What to tell where it has ended."""
+
     def begins(self, run: Run) -> str:
         """It begins now: its id. Raises `Over` where it has ended meanwhile."""
 
@@ -271,22 +303,60 @@ class Account(Protocol):
         """What it has set aside is given back: nobody waits any more for whether it was."""
 
 
-class First(Call[None]):
-    """The first call of a transaction: begin and escrow."""
+class Naming(Call[None]):
+    """A call whose lines name a transaction: `own` is how they do, and stands between the pieces of them and of the answers
+    where nothing is refused."""
 
-    __slots__ = ("_account", "_what")
+    __slots__ = ("own", "asked", "granted")
+
+    own: str
+    asked: tuple[str, ...]
+    granted: tuple[str, ...]
+
+    @property
+    def text(self) -> str:  # type: ignore[override]
+        """The lines."""
+        return self.own.join(self.asked)
+
+    @property
+    def expected(self) -> str:  # type: ignore[override]
+        """The answers where nothing is refused."""
+        return self.own.join(self.granted)
+
+    def named(self, id: str) -> None:
+        """The site names it so: told where the lines went out before that was known."""
+        self.own = id
+
+
+class First(Naming):
+    """The first call of a transaction: begin and escrow. `is_placed` tells a door that a place is kept for it."""
+
+    __slots__ = ("_account", "_what", "is_placed")
     command = Command.ESCROW
     again = True
     opens = True
 
     def __init__(self, account: Account, field: str, change: int) -> None:
         self.waiter = None
+        self.is_placed = False
         self._account, self._what = account, f"{field} {change}"
 
     def plan(self, run: Run) -> None:
-        n, own = run.number, self._account.begins(run)
-        self.text = f"{n} begin\n{n} escrow {own} {self._what}\n"
-        self.expected = f"{n} begin -> begun {own}\n{n} escrow {own} {self._what} -> granted\n"
+        n, self.own = run.number, self._account.begins(run)
+        self.asked = f"{n} begin\n{n} escrow ", f" {self._what}\n"
+        self.granted = f"{n} begin -> begun ", f"\n{n} escrow ", f" {self._what} -> granted\n"
+
+    def displaced(self) -> Optional[Over]:
+        """There is no place for it yet: what to tell where nobody wants it any more."""
+        return self._account.displaced()
+
+    def door_text(self) -> str:
+        number = self.asked[0].partition(" ")[0]
+        return f"{number} {'enter' if self.is_placed else 'open'} {self._what}\n"
+
+    def named(self, id: str) -> None:
+        self.own = id
+        self._account.named(id)
 
     def unasked(self) -> None:
         self._account.unbegun()
@@ -296,11 +366,11 @@ class First(Call[None]):
         return Unknown(f"{LATE}: it is given back", self._account.id)
 
     def told(self, replies: Sequence[Reply]) -> None:
-        _begun(replies[0], self._account.line_id)
+        _begun(replies[0], self.own)
         replies[1].words("granted")
 
 
-class Later(Call[None]):
+class Later(Naming):
     """A later escrow of a transaction."""
 
     __slots__ = ("_account", "_what")
@@ -311,8 +381,8 @@ class Later(Call[None]):
         self._account, self._what = account, f"{field} {change}"
 
     def plan(self, run: Run) -> None:
-        line = f"{run.number} escrow {self._account.goes_on(run)} {self._what}"
-        self.text, self.expected = f"{line}\n", f"{line} -> granted\n"
+        self.own, front = self._account.goes_on(run), f"{run.number} escrow "
+        self.asked, self.granted = (front, f" {self._what}\n"), (front, f" {self._what} -> granted\n")
 
     def stopped(self) -> Over:
         return gone(self._account.id)
@@ -325,7 +395,7 @@ class Later(Call[None]):
         replies[0].words("granted")
 
 
-class Commit(Call[None]):
+class Commit(Naming):
     """The commit of a transaction."""
 
     __slots__ = ("_account",)
@@ -337,8 +407,8 @@ class Commit(Call[None]):
         self._account = account
 
     def plan(self, run: Run) -> None:
-        line = f"{run.number} commit {self._account.ends(run)}"
-        self.text, self.expected = f"{line}\n", f"{line} -> committed\n"
+        self.own, front = self._account.ends(run), f"{run.number} commit "
+        self.asked, self.granted = (front, "\n"), (front, " -> committed\n")
 
     def doubt(self, front: str) -> EscrowError:
         return Unknown(LATE, self._account.id)
@@ -351,7 +421,7 @@ class Commit(Call[None]):
         replies[0].words("committed")
 
 
-class Abort(Call[None]):
+class Abort(Naming):
     """The abort of a transaction."""
 
     __slots__ = ("_account",)
@@ -363,8 +433,8 @@ class Abort(Call[None]):
         self._account = account
 
     def plan(self, run: Run) -> None:
-        line = f"{run.number} abort {self._account.ends(run)}"
-        self.text, self.expected = f"{line}\n", f"{line} -> aborted\n"
+        self.own, front = self._account.ends(run), f"{run.number} abort "
+        self.asked, self.granted = (front, "\n"), (front, " -> aborted\n")
 
     def stopped(self) -> Over:
         self._account.stopped()
@@ -374,20 +444,21 @@ class Abort(Call[None]):
         replies[0].words("aborted")
 
 
-class GiveBack(Call[None]):
+class GiveBack(Naming):
     """The abort of a transaction whose time is up. Nobody waits for it."""
 
-    __slots__ = ("_id",)
+    __slots__ = ()
     command = Command.ABORT
     closes = True
     bound = True
 
     def __init__(self, id: str) -> None:
         self.waiter = None
-        self._id = id
+        self.own = id
 
     def plan(self, run: Run) -> None:
-        self.text, self.expected = f"{run.number} abort {self._id}\n", ""
+        front = f"{run.number} abort "
+        self.asked, self.granted = (front, "\n"), (front, " -> aborted\n")
 
     def told(self, replies: Sequence[Reply]) -> None:
         replies[0].words("aborted")
@@ -405,7 +476,9 @@ class Kept(Call[Outcome]):
         self.text, self.expected = f"kept {id}\n", ""
 
     def plan(self, run: Run) -> None:
-        standing = run.standing(self._id)
+        self._stands(run.standing(self._id))
+
+    def _stands(self, standing: Standing) -> None:
         if standing is Standing.LATER:
             raise Unknown("its epoch is later than any of the log: an older log was put back", self._asked)
         if standing is Standing.UNBEGUN:
@@ -413,8 +486,52 @@ class Kept(Call[Outcome]):
         self._is_open = standing is Standing.OPEN
 
     def told(self, replies: Sequence[Reply]) -> Outcome:
-        if replies[0].text == "yes":
+        text = replies[0].text
+        if text == "yes":
             return Outcome.COMMITTED
-        if replies[0].text != "no":
-            raise Faulty(f"{replies[0].line!r} was answered {replies[0].text!r}")
+        if text in _BY_A_DOOR:
+            self._stands(_BY_A_DOOR[text])
+        elif text != "no":
+            raise Faulty(f"{replies[0].line!r} was answered {text!r}")
         return Outcome.OPEN if self._is_open else Outcome.NOT_COMMITTED
+
+
+_BY_A_DOOR = {"later": Standing.LATER, "unbegun": Standing.UNBEGUN, "open": Standing.OPEN}
+"""What a door answers by itself of a transaction."""
+
+
+class Left(Call[None]):
+    """Gives a place back to a door, that nobody wants any more."""
+
+    __slots__ = ()
+    command = Command.ABORT
+
+    def __init__(self) -> None:
+        self.waiter = None
+        self.text, self.expected = "leave\n", "leave -> left\n"
+
+    def plan(self, run: Run) -> None:
+        """It is the same at any time."""
+
+    def told(self, replies: Sequence[Reply]) -> None:
+        """Any answer will do."""
+
+
+class Newest(Call[Mark]):
+    """How far the log has come by now, asked of a door."""
+
+    __slots__ = ()
+    command = Command.SHARE
+    again = True
+
+    def __init__(self) -> None:
+        self.text, self.expected = "mark\n", ""
+
+    def plan(self, run: Run) -> None:
+        """It is the same at any time."""
+
+    def told(self, replies: Sequence[Reply]) -> Mark:
+        epoch, _, length = replies[0].text.partition(" ")
+        if not (epoch + length).isdecimal():
+            raise Faulty(f"{replies[0].line!r} was answered {replies[0].text!r}")
+        return Mark(int(epoch), int(length))

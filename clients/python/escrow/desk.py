@@ -43,7 +43,7 @@ class Desk:
         """Whether it wakes tasks, and sends behind that."""
         self.can_read = True
         """Whether the loop watches pipes, as far as is known."""
-        self._pipeline, self._pace = pipeline, Pace()
+        self._pipeline, self._pace = pipeline, Pace(pipeline.may_part)
         self._held = False  # what has gathered waits for more answers
         self._ended = loop.create_future()  # a woken task asks it whether to go on
         self._ended.set_result(None)
@@ -79,8 +79,11 @@ class Desk:
             self.gathered.remove(call)
             call.answer = self._pipeline.decline(call)
         else:
-            call.answer = self._pipeline.withdraw(call)
+            fault = self._pipeline.withdraw(call)
             self._pipeline.flush()
+            if fault is None:
+                return
+            call.answer = fault
         call.wake = None
         call.context.run(wake, self._ended)
 
@@ -143,10 +146,11 @@ class Pace:
     in which nothing is asked counts for neither.
     """
 
-    __slots__ = ("parts", "_trials", "_left", "_answers", "_seconds", "_since")
+    __slots__ = ("parts", "_trials", "_left", "_answers", "_seconds", "_since", "_may")
 
-    def __init__(self) -> None:
-        self.parts = False
+    def __init__(self, may: bool = True) -> None:
+        """`may` tells whether two parts are ever tried."""
+        self.parts, self._may = False, may
         """Whether they go out in two parts now."""
         self._trials, self._left = TRIALS, TRIAL  # so many trials are left, and reads of this one
         self._answers, self._seconds = [0, 0], [0.0, 0.0]  # what came in all trials, and how long it took: by `parts`
@@ -154,6 +158,8 @@ class Pace:
 
     def comes(self, many: int) -> bool:
         """So many answers have come: whether what their tasks ask goes out in two parts."""
+        if not self._may:
+            return False
         now = perf_counter()
         if self._since is not None:
             self._answers[self.parts] += many

@@ -38,6 +38,11 @@ class Holding:
             self._is_asleep = False
             self._later(self._seconds, self._look)
 
+    def rename(self, id: str, told: str) -> None:
+        """It is named so, where it is open."""
+        if id in self._since:
+            self._since[told] = self._since.pop(id)
+
     def discard(self, id: str) -> None:
         """It has ended."""
         self._since.pop(id, None)

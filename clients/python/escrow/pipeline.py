@@ -107,6 +107,9 @@ class Taken(NamedTuple):
 class Pipeline:
     """The order of the lines of one site, over one process after another."""
 
+    may_part = True
+    """Whether what a loop's tasks ask may go out in two parts."""
+
     def __init__(
         self,
         number: int,
@@ -133,6 +136,8 @@ class Pipeline:
         self.dead: Optional[Down] = None
         """Why no call is taken any more."""
         self.epoch = 0
+        self.run = 0
+        """Which process it is of this client."""
         self.era = 0
         """How often somebody else may have served the site between two processes of this client."""
         self.open = 0
@@ -221,15 +226,19 @@ class Pipeline:
             return False
         return self.dead is None and self.unanswered >= self._most_waiting
 
-    def withdraw(self, call: Call[Any]) -> EscrowError:
-        """Its time is up: nobody waits for it any more. What to tell who asked. Then `flush`."""
+    def withdraw(self, call: Call[Any]) -> Optional[EscrowError]:
+        """Its time is up: nobody waits for it any more. What to tell who asked; None where that is told in a moment, as its
+        answer. Then `flush`."""
         with self.lock:
             if self.unqueue(call):
                 return self._declined(call)
-            call.waiter = None
-            fault = call.doubt(self.front)
-            self.missed(fault)
-            return fault
+            return self._doubted(call)
+
+    def _doubted(self, call: Call[Any]) -> Optional[EscrowError]:
+        call.waiter = None
+        fault = call.doubt(self.front)
+        self.missed(fault)
+        return fault
 
     def forget(self, call: Call[Any], was_kept: bool) -> None:
         """Nobody waits for it any more: it isn't asked, where it wasn't yet. `was_kept` tells that it wasn't submitted."""
@@ -273,14 +282,18 @@ class Pipeline:
         prefix, first = self._prefix, self._numbers + 1
         self._numbers += len(changes)
         ids = [f"{prefix}{number}" for number in range(first, first + len(changes))]
-        together = Changes(changes, ids)
+        together = Changes(changes)
+        together.name(ids)
+        self._queue_together(together, together.lines())
+
+    def _queue_together(self, together: Changes, text: str) -> None:
         if self._watch is not None:
             began = self._began = self._began if self._out else time.perf_counter()
-            for call in changes:
+            for call in together.calls:
                 call.began = began
         self._pending.append(together)
-        self._asked += len(changes)
-        self._out.append(together.text)
+        self._asked += len(together.calls)
+        self._out.append(text)
 
     def _place(self, call: Call[Any]) -> None:
         if self.up:
@@ -312,13 +325,16 @@ class Pipeline:
             return
         if self._watch is not None:
             call.began = self._began = self._began if self._out else time.perf_counter()
-        self._pending.append(call)
+        self._send(call)
         self._asked += 1
-        self._out.append(call.text)
         if call.opens:
             self.open += 1
         elif call.closes:
             self._leave()
+
+    def _send(self, call: Call[Any]) -> None:
+        self._pending.append(call)
+        self._out.append(call.text)
 
     def _leave(self) -> None:
         """A place is free: the first takes it that still wants it."""
@@ -347,6 +363,14 @@ class Pipeline:
             raise EpochFull()
         self._numbers += 1
         return f"{self._prefix}{self._numbers}"
+
+    def change_id(self) -> str:
+        """As `new_id`, of a change in one trip."""
+        return self.new_id()
+
+    def told_id(self, line_id: str) -> str:
+        """The id that callers are told of a transaction that lines name so; nothing where it isn't known yet."""
+        return self.front + line_id
 
     def line_id(self, id: str) -> str:
         """How lines name the transaction of this id. Raises `OtherWorld`, `OtherSite`, and `ValueError` where it is none."""
@@ -393,7 +417,7 @@ class Pipeline:
             text, self._out = "".join(self._out), []
         piece = text.encode("ascii")
         try:
-            taken = os.write(self._to, piece)
+            taken = self._put(piece)
         except BlockingIOError:
             taken = 0
         except OSError:  # it has ended: the reader finds that out
@@ -402,6 +426,10 @@ class Pipeline:
             with self.lock:
                 self._out.insert(0, text[taken:])
             self._full.set()
+
+    def _put(self, piece: bytes) -> int:
+        """Writes what can be written at once: how many bytes. Raises `OSError`."""
+        return os.write(self._to, piece)
 
     def write_rest(self) -> None:
         """Waits for a pipe that took less than there was, and goes on with it. For one thread of its own."""
@@ -428,11 +456,9 @@ class Pipeline:
         pending, fault = self._pending, None
         try:
             while at < len(buffer):
-                if not pending:
-                    raise Faulty(f"{buffer[at:]!r} answers nothing")
-                call = pending[0]
-                expected = call.expected
-                if expected and buffer.startswith(expected, at):
+                call = pending[0] if pending else None
+                expected = "" if call is None else call.expected
+                if call is not None and expected and buffer.startswith(expected, at):
                     at += len(expected)
                     waiters.add(call.waiter)
                     if type(call) is Changes:
@@ -440,6 +466,13 @@ class Pipeline:
                     else:
                         call.answer = None
                         done.append(call)
+                elif end := self._hear(buffer, at):
+                    if end < 0:
+                        break
+                    at = end
+                    continue
+                elif call is None:
+                    raise Faulty(f"{buffer[at:]!r} answers nothing")
                 elif type(call) is Changes:
                     self._part(call)
                     continue
@@ -458,6 +491,10 @@ class Pipeline:
         self._done += len(done)
         self.counts.answers += len(done)
         return Taken(done, waiters, fault)
+
+    def _hear(self, buffer: str, at: int) -> int:
+        """Takes a line that answers none: where it ends; 0 where there is none, and -1 where it isn't whole yet."""
+        return 0
 
     def _part(self, first: Changes) -> None:
         """Not all of these are answered well, or not yet: each waits by itself."""
@@ -495,9 +532,9 @@ class Pipeline:
     # What the supervisor does.
 
     def stand(self, epoch: int, to: int) -> None:
-        """The process stands, and takes lines at this end of its pipe, which is closed here."""
-        os.set_blocking(to, False)
+        """The process stands, and takes lines at this end of its pipe, which doesn't block, and is closed here."""
         with self._writing, self.lock:
+            self.run += 1
             self.counts.starts += 1
             self._ending = self.dead is not None
             self.epoch, self._prefix, self._numbers, self.open = epoch, f"{epoch}.", 0, 0

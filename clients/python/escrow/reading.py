@@ -22,6 +22,14 @@ CALM = 4
 """Behind so many reads that had answers for the tasks of one loop alone that loop reads."""
 
 
+def some_of(back: int) -> bytes:
+    """What there is to read at this descriptor, once there is something; nothing at its end."""
+    try:
+        return os.read(back, AT_ONCE)
+    except ConnectionResetError:  # the end of a socket, whose other end was closed with something unread
+        return b""
+
+
 class Reading:
     """Whose turn it is to read. A loop that reads its own answers saves two changes of thread for each read.
 
@@ -65,7 +73,7 @@ class Reading:
     def read(self, back: int) -> None:
         """Reads answers until there are no more, and hands them over. Raises `Faulty` where they fit no line."""
         self._calm = 0
-        while piece := os.read(back, AT_ONCE):
+        while piece := some_of(back):
             self._hand_over(self._pipeline.take(piece))
             if self._calm >= CALM:
                 self._lend(back)
@@ -75,6 +83,8 @@ class Reading:
         self._pipeline.tell(taken.calls)
         if taken.fault is not None:
             raise taken.fault
+        if not taken.calls:
+            return
         desk = next(iter(taken.waiters)) if len(taken.waiters) == 1 else None
         if type(desk) is Desk and desk.can_read:
             self._calm = self._calm + 1 if desk is self._last else 1
@@ -154,11 +164,12 @@ class Turn:
             mine = self._take()
             if self.fault is not None:
                 reading.signal()
-        self.desk.answer(mine)
+        if mine:
+            self.desk.answer(mine)
 
     def _take(self) -> list[Call[Any]]:
         """Takes what there is: the calls of this loop. Others are settled at once."""
-        piece = os.read(self._back.fileno(), AT_ONCE)
+        piece = some_of(self._back.fileno())
         if not piece:  # the thread finds that out too
             self.desk.loop.remove_reader(self._back.fileno())
         done, waiters, self.fault = self._pipeline.take(piece)

@@ -16,8 +16,9 @@ from typing import Any, NoReturn, Optional, Union
 
 from .asking import ask, ask_behind_stop, async_ask_behind_stop, async_kept, end_of, is_kept, kept
 from .calls import Change, Kept, Line, Shape
+from .connector import Connector
 from .desk import NEVER, Ask, Desks
-from .dropped import closer
+from .dropped import Closer, closer
 from .errands import Errands
 from .errors import Down, Interrupted
 from .gauges import Gauges
@@ -57,6 +58,7 @@ class Site:
     """
 
     _is_open = False
+    _supervisor: Union[Supervisor, Connector]
 
     def __init__(
         self,
@@ -106,17 +108,15 @@ class Site:
         self._program = os.fspath(program) if program else find_program()
         self._hooks, self._clock = Errands(f"escrow hooks {self.number}"), Errands(f"escrow time limits {self.number}")
         self._is_fork = False
-        self._folder_lock = _lock(os.path.join(self.folder, "site"))
+        self._folder_lock = lock_folder(self.folder)
         names = frozenset(field.name for field in self.schema.fields)
-        holding, issued = Holding(held, self._clock.after, self.folder), _weakly(self._issued)
+        holding, issued = Holding(held, self._clock.after, self.folder), weakly(self._issued)
         self.pipeline = Pipeline(self.number, self.world, names, issued, metrics, holding, most_waiting)
         self._steps = Steps(self.pipeline, self.folder, self._program)
         options = (*(("--trace",) if trace else ()), *(() if sync else ("--no-sync",)))
         orders = Orders(self.folder, (self._program, "serve", self.folder, *options), backoff, patience)
-        self._supervisor = Supervisor(orders, self.pipeline, _weakly(self._started), metrics, not_before)
-        self._is_open = True
-        closer.watch()
-        _open_sites.add(self)
+        self._supervisor = Supervisor(orders, self.pipeline, weakly(self._started), metrics, not_before)
+        keep_watch(self, closer)
         end = time.monotonic() + wait
         try:
             self._wait(wait)
@@ -151,6 +151,24 @@ class Site:
         else:
             create(folder, schema, number, program, name=name)
         return cls(folder, program, **options)
+
+    @classmethod
+    def connect(cls, path: Path, **options: Any) -> Site:
+        """The site behind a door, which `python3 -m escrow.door` has opened at this path: for a machine where several
+        processes use one site. All is as of a `Site` that serves its folder, but for what is told here.
+
+        `options` are `not_before`, `last_id`, `metrics`, `wait`, `patience`, `backoff`, `timeout`, `most_waiting` and
+        `held`, as `Site` has them. Raises `Down` as that does: at once where this user may not come in or the door is of
+        another version (no `status`), or where the log is refused (3); where nobody is there, once `wait` is over.
+
+        A door that dies or is restarted is a stop of the site. `epoch` may stay the same behind one, where the connection
+        alone has ended. **A gift or a tightening that a stop left unanswered is `Unknown`**, since others give too. A
+        call that the door hasn't taken by its time limit is `Busy`: then the connection is ended, so that it never is,
+        and with it the open transactions of this process. `pid` is None, and `on_statement` hears what this process gives.
+        """
+        from .connected import ConnectedSite
+
+        return ConnectedSite(path, **options)
 
     def _wait(self, seconds: float) -> None:
         stands, why = self._supervisor.wait(seconds), self.pipeline.dead
@@ -399,7 +417,7 @@ class Site:
         warnings.warn(f"{self.folder}: a Site was dropped open: close it, or use it by with", ResourceWarning, source=self)
 
 
-def _close_dropped(supervisor: Supervisor, clock: Errands, hooks: Errands, held: int) -> None:
+def _close_dropped(supervisor: Union[Supervisor, Connector], clock: Errands, hooks: Errands, held: int) -> None:
     supervisor.close(10.0)
     clock.close(10.0)
     hooks.close(10.0)
@@ -407,7 +425,14 @@ def _close_dropped(supervisor: Supervisor, clock: Errands, hooks: Errands, held:
         os.close(held)
 
 
-def _weakly(method: Callable[..., object]) -> Callable[..., None]:
+def keep_watch(site: Site, by: Closer) -> None:
+    """It is open from now on: it is closed where it is dropped, and a fork lets go of it."""
+    site._is_open = True
+    by.watch()
+    _open_sites.add(site)
+
+
+def weakly(method: Callable[..., object]) -> Callable[..., None]:
     """Calls a method of what is still there: so the threads of a site don't keep it."""
     assert isinstance(method, MethodType)
     held = weakref.WeakMethod(method)
@@ -450,16 +475,23 @@ class AsyncSite:
     def __init__(self, site: Union[Site, Path], *, timeout: Optional[float] = None, **options: Any) -> None:
         """`timeout` is that of calls which have none of their own; without it they have the site's."""
         self.timeout = timeout
-        self._folder: Optional[Path] = None
+        self._make: Optional[Callable[[], Site]] = None
         if isinstance(site, Site):
             if options:
                 raise TypeError(f"the Site is made already: {', '.join(options)} come too late")
             self._serve(site)
         else:
-            self._folder, self._options = os.fspath(site), options
+            self._make = partial(Site, os.fspath(site), **options)
             nothing: Any = _Unserved()
             self.site = self._pipeline = self._desks = self._ask = nothing
             self._shapes, self._front = {}, ""
+
+    @classmethod
+    def connect(cls, path: Path, *, timeout: Optional[float] = None, **options: Any) -> AsyncSite:
+        """The site behind a door, as `Site.connect` with these options: for `async with`."""
+        shop = cls(path, timeout=timeout)
+        shop._make = partial(Site.connect, path, **options)
+        return shop
 
     def _serve(self, site: Site) -> None:
         self.site = site
@@ -471,12 +503,12 @@ class AsyncSite:
         self._ask = self._desks.ask
 
     async def __aenter__(self) -> AsyncSite:
-        if self._folder is not None:
-            self._serve(await asyncio.to_thread(Site, self._folder, **self._options))
+        if self._make is not None:
+            self._serve(await asyncio.to_thread(self._make))
         return self
 
     async def __aexit__(self, *_: object) -> None:
-        if self._folder is not None:
+        if self._make is not None:
             await self.close()
 
     async def close(self, seconds: float = 10.0) -> None:
@@ -572,8 +604,9 @@ class AsyncSite:
         return await self._ask(self.site._kept(id), end_of(timeout, self.timeout))
 
 
-def _lock(path: str) -> int:
-    """Takes the folder for this client: its file stays locked as long as this descriptor is open."""
+def lock_folder(folder: str) -> int:
+    """Takes the folder for this client: its file `site` stays locked as long as this descriptor is open. Raises `Down`."""
+    path = os.path.join(folder, "site")
     held = os.open(path, os.O_RDONLY | os.O_CLOEXEC)
     try:
         fcntl.flock(held, fcntl.LOCK_EX | fcntl.LOCK_NB)

@@ -213,7 +213,7 @@ class Supervisor:
         ready, restart = back.readline(), back.readline()
         if not restart.endswith(b"\n"):
             return False
-        mark = _mark(ready)
+        mark = mark_of(ready)
         if mark.epoch <= self._pipeline.epoch:
             raise Faulty(f"epoch {mark.epoch} behind epoch {self._pipeline.epoch}")
         if self._pipeline.epoch and served_between(self._orders.folder, self.mark or mark, mark):
@@ -221,7 +221,9 @@ class Supervisor:
         self.mark = mark
         if self._watch is not None:
             self._watch.started(*mark)
-        self._pipeline.stand(mark.epoch, os.dup(to.fileno()))
+        end = os.dup(to.fileno())
+        os.set_blocking(end, False)
+        self._pipeline.stand(mark.epoch, end)
         to.close()
         log.info("%s: the site stands: epoch %d, process %s", self._orders.folder, mark.epoch, self.pid)
         self._started()
@@ -263,7 +265,8 @@ class Supervisor:
                 self._pipeline.finish()
 
 
-def _mark(ready: bytes) -> Mark:
+def mark_of(ready: bytes) -> Mark:
+    """What the ready line of a process tells. Raises `Down` where it is none of this version."""
     words = ready.decode("ascii", "replace").split()
     if words[:2] != ["ready", VERSION] or len(words) != 4 or not (words[2] + words[3]).isdecimal():
         raise Down(f"the program isn't one that this client knows: it began with {ready!r}")

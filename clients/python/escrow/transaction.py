@@ -50,7 +50,7 @@ class BaseTransaction:
         self._site = site
         self._state = State.NEW
         self._is_told = False  # what became of it was asked for, by a commit or an abort
-        self._epoch = 0
+        self._run = 0
         self._first: Optional[First] = None
         self._limit: Optional[Entry] = None
         self._granted = 0
@@ -66,15 +66,26 @@ class BaseTransaction:
     def begins(self, run: Run) -> str:
         """It begins now: its id. Raises `Over` where it has ended meanwhile."""
         self._check()
-        self.line_id, self._epoch = run.new_id(), run.epoch
-        self.id = self._pipeline.front + self.line_id
+        self.line_id, self._run = run.new_id(), run.run
+        self.id = self._pipeline.told_id(self.line_id)
         self._pipeline.open_ids.add(self.line_id)
         return self.line_id
+
+    def named(self, line_id: str) -> None:
+        """The site names it so: told where its begin went out before that was known."""
+        self._pipeline.open_ids.rename(self.line_id, line_id)
+        self.line_id, self.id = line_id, self._pipeline.told_id(line_id)
+
+    def displaced(self) -> Optional[Over]:
+        """Its begin went out, and isn't made for want of a place: it waits for one. What to tell where it has ended."""
+        self._pipeline.open_ids.discard(self.line_id)
+        self._run, self.line_id, self.id = 0, "", ""
+        return None if self._state is State.OPEN else over(_CAUSES[self._state], None)
 
     def goes_on(self, run: Run) -> str:
         """Its id, where it is still open. Raises `Over` where it isn't."""
         self._check()
-        if self._epoch != run.epoch:
+        if self._run != run.run:
             raise gone(self.id)
         return self.line_id
 
@@ -82,7 +93,7 @@ class BaseTransaction:
         """It ends now: its id. Raises `Over` where it has ended."""
         self._check()
         self._end()
-        if self._epoch != run.epoch:
+        if self._run != run.run:
             raise gone(self.id)
         self._pipeline.open_ids.discard(self.line_id)
         return self.line_id
@@ -111,7 +122,7 @@ class BaseTransaction:
 
     def _give_back(self) -> bool:
         """Whether there is a process that has it open."""
-        is_there = self._pipeline.up and self._epoch == self._pipeline.epoch
+        is_there = self._pipeline.up and self._run == self._pipeline.run
         if is_there:
             self._pipeline.open_ids.discard(self.line_id)
             self._pipeline.queue(GiveBack(self.line_id))
