@@ -2,14 +2,15 @@
 """Measures durable commits a second on one hot field: a site that `escrow_site` serves, beside a plain program that
 appends and syncs, PostgreSQL's hot row, and Redis that syncs each append.
 
-    bench/store.py [SECONDS [TURNS]] [--folder FOLDER] [--versions]
+    bench/store.py [SECONDS [TURNS]] [--folder FOLDER] [--versions | --door]
 
 SECONDS is how long each row runs in a turn (2 if left out), TURNS how often all rows run, one after another (7), every
 other time in the order turned round, and FOLDER where all of them keep their files (a temporary folder): one disk for all.
 It prints the median of each row with its least and greatest, and then ratios: each is the median of the ratios within a
 turn, since what else a disk does falls on all rows of a turn alike. What isn't installed is skipped, by name;
 `bench/install` installs it. With --versions it runs the rows of a site alone, each over a log of version 2, as `create`
-makes it, and over one of version 1, which has no sums.
+makes it, and over one of version 1, which has no sums. With --door it runs the rows of the Python client alone, and tells how
+long a change takes: half of them, and 99 of 100, at most.
 
 The rows:
 
@@ -17,6 +18,9 @@ The rows:
   transaction counts once its commit was answered, which is behind the sync of its record.
 - `site N deep, --no-sync`: the same without a sync.
 - `.., log 1`: the same over a log of version 1.
+- `client N tasks`: the Python client over a site of its own, in one process: N tasks of one loop, each with a change of -1 under
+  way, by `change`.
+- `door P x N tasks`: the same in P processes of N tasks each, over one door (`python3 -m escrow.door`).
 - `raw 1 deep`: a plain program (`bench/plain/raw_log.rs`) that the same client drives: it appends a record of 16 bytes,
   syncs it and answers.
 - `postgres N clients`: an UPDATE of one row, prepared, with the bound as its condition; by pgbench, over a socket.
@@ -28,8 +32,10 @@ unpacks), and `rustc` for the plain one.
 """
 
 import argparse
+import asyncio
 import contextlib
 import hashlib
+import json
 import os
 import pwd
 import re
@@ -47,6 +53,8 @@ HEADER = '{"sites":1,"fields":[{"name":"stock","floor":0,"ceiling":1000000000000
 DEPTHS = (1, 8, 64, 1_024)
 UNSYNCED = (64, 1_024)
 COMPARED = (1, 64)
+TASKS = (1, 8, 64)
+DOORS = ((1, 1), (4, 2), (4, 16), (1, 64))
 CLIENTS = (1, 8, 64)
 MOST = 3_000_000
 LOWER = "local v = tonumber(redis.call('GET', KEYS[1])) if v >= 1 then return redis.call('DECRBY', KEYS[1], 1) end return -1"
@@ -181,6 +189,98 @@ def site_rows(folder: str, with_versions: bool) -> Iterator[Row]:
     yield from map(sites.row, each)
 
 
+class Clients:
+    """The Python client, over a site of its own, and over a door."""
+
+    def __init__(self, program: str, folder: str) -> None:
+        self.sites = Sites(program, folder)
+        self.took: dict[str, list[tuple[float, float]]] = {}
+
+    def told(self, name: str, found: list[list[float]]) -> float:
+        """The changes a second of all processes; how long they took is kept: the middle, and the longest of all."""
+        self.took.setdefault(name, []).append((statistics.mean(it[2] for it in found), max(it[3] for it in found)))
+        return sum(it[0] for it in found) / max(it[1] for it in found)
+
+    def in_process(self, tasks: int, name: str, seconds: float) -> float:
+        self.sites.make(2)
+        with client().Site(self.sites.kept, program=self.sites.program) as site:
+            return self.told(name, [sell(site, tasks, seconds)])
+
+    def by_door(self, processes: int, tasks: int, name: str, seconds: float) -> float:
+        self.sites.make(2)
+        path = os.path.join(self.sites.folder, "door")
+        words = [sys.executable, "-m", "escrow.door", self.sites.kept, "--socket", path, "--program", self.sites.program]
+        environment = {**os.environ, "PYTHONPATH": os.path.join(TOP, "clients", "python")}
+        with running(words, env=environment, stderr=subprocess.DEVNULL), contextlib.ExitStack() as stack:
+            worker = [sys.executable, os.path.abspath(__file__), str(seconds), "--sell", path, str(tasks)]
+            pipes = {"stdin": subprocess.PIPE, "stdout": subprocess.PIPE, "text": True}
+            workers = [stack.enter_context(running(worker, **pipes)) for _ in range(processes)]
+            if any(it.stdout.readline() != "ready\n" for it in workers):
+                sys.exit("a client didn't come in by the door")
+            for it in workers:
+                it.stdin.write("begin\n")
+                it.stdin.flush()
+            return self.told(name, [json.loads(it.stdout.readline()) for it in workers])
+
+    def rows(self, is_short: bool) -> Iterator[Row]:
+        for tasks in (64,) if is_short else TASKS:
+            name = f"client {tasks} tasks"
+            yield Row(name, lambda seconds, tasks=tasks, name=name: self.in_process(tasks, name, seconds))
+        for many, tasks in ((4, 16),) if is_short else DOORS:
+            name = f"door {many} x {tasks} tasks"
+            yield Row(name, lambda seconds, many=many, tasks=tasks, name=name: self.by_door(many, tasks, name, seconds))
+
+    def tell(self) -> None:
+        for name, took in self.took.items():
+            half, most = (1000 * statistics.median(it[place] for it in took) for place in (0, 1))
+            print(f"{name:32} a change takes {half:.2f} ms, 99 of 100 at most {most:.2f} ms")
+
+
+def client():
+    """The package of the Python client."""
+    sys.path.insert(0, os.path.join(TOP, "clients", "python"))
+    import escrow
+
+    return escrow
+
+
+def sell(site, tasks: int, seconds: float) -> list[float]:
+    """Sells by so many tasks: how many, in how many seconds, and how long half and 99 of 100 of them took at most."""
+    took: list[float] = []
+
+    async def sells(shop, end: float) -> None:
+        while (began := time.perf_counter()) < end:
+            await shop.change("stock", -1)
+            took.append(time.perf_counter() - began)
+
+    async def all_sell() -> float:
+        began = time.perf_counter()
+        shop = client().AsyncSite(site)
+        await asyncio.gather(*(sells(shop, began + seconds) for _ in range(tasks)))
+        return time.perf_counter() - began
+
+    spent = asyncio.run(all_sell())
+    took.sort()
+    return [len(took), spent, took[len(took) // 2], took[len(took) * 99 // 100]]
+
+
+def work(path: str, tasks: int, seconds: float) -> None:
+    """One process that sells through a door, once it is told to."""
+    with client().Site.connect(path) as site:
+        print("ready", flush=True)
+        sys.stdin.readline()
+        print(json.dumps(sell(site, tasks, seconds)), flush=True)
+
+
+def client_rows(folder: str, is_short: bool) -> tuple[list[Row], Callable[[], None]]:
+    """The rows of the Python client, and what tells how long its changes took."""
+    program = site_program()
+    if program is None:
+        return [], lambda: None
+    clients = Clients(program, folder)
+    return [*clients.rows(is_short)], clients.tell
+
+
 def epoch_of(child: subprocess.Popen) -> int:
     """The epoch that the served site tells: it stands in the entry of its restart."""
     told = b""
@@ -297,6 +397,10 @@ def redis_rows(socket: str) -> Iterator[Row]:
 
 
 RATIOS = (
+    ("door 4 x 16 tasks", "client 64 tasks"),
+    ("door 1 x 64 tasks", "client 64 tasks"),
+    ("door 4 x 2 tasks", "client 8 tasks"),
+    ("door 1 x 1 tasks", "client 1 tasks"),
     *((Served(deep, it).name(), Served(deep, it, 1).name()) for deep in COMPARED for it in (True, False)),
     ("site 1 deep", "raw 1 deep"),
     ("site 1 deep", "postgres 1 clients"),
@@ -343,15 +447,23 @@ def main() -> None:
     parser.add_argument("turns", type=int, nargs="?", default=7, help="of all rows, one after another")
     parser.add_argument("--folder", default=None, help="where all keep their files")
     parser.add_argument("--versions", action="store_true", help="the versions of logs beside each other, and nothing else")
+    parser.add_argument("--door", action="store_true", help="the Python client beside a door, and nothing else")
+    parser.add_argument("--sell", nargs=2, metavar=("PATH", "TASKS"), help=argparse.SUPPRESS)
     given = parser.parse_args()
+    if given.sell:
+        work(given.sell[0], int(given.sell[1]), given.seconds)
+        return
     with contextlib.ExitStack() as stack:
         folder = stack.enter_context(tempfile.TemporaryDirectory(prefix="store-", dir=given.folder))
         os.chmod(folder, 0o755)
-        rows = [*site_rows(folder, given.versions)]
-        if not given.versions:
+        rows = [] if given.door else [*site_rows(folder, given.versions)]
+        more, tell_took = ([], lambda: None) if given.versions else client_rows(folder, not given.door)
+        rows += more
+        if not given.versions and not given.door:
             rows += [*raw_rows(folder), *server_rows(folder, stack)]
         turns = [take_turn(rows if number % 2 == 0 else rows[::-1], given.seconds) for number in range(given.turns)]
         tell(rows, turns)
+        tell_took()
 
 
 if __name__ == "__main__":
