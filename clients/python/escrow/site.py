@@ -164,7 +164,9 @@ class Site:
         A door that dies or is restarted is a stop of the site. `epoch` may stay the same behind one, where the connection
         alone has ended. **A gift or a tightening that a stop left unanswered is `Unknown`**, since others give too. A
         call that the door hasn't taken by its time limit is `Busy`: then the connection is ended, so that it never is,
-        and with it the open transactions of this process. `pid` is None, and `on_statement` hears what this process gives.
+        and with it the open transactions of this process. Where a program is in between, as one that knows TLS, what it
+        hasn't been told of by then is `Unknown`, of a change without an id. `pid` is None, and `on_statement` hears what
+        this process gives.
         """
         from .connected import ConnectedSite
 
