@@ -14,6 +14,7 @@ no such program passes on.
 from __future__ import annotations
 
 import contextlib
+import re
 import socket
 from collections import deque
 from collections.abc import Callable, Iterator, Sequence
@@ -26,6 +27,7 @@ from .pipeline import Pipeline, Watch
 from .values import Statement
 
 UNSURE = "the connection has ended, and whether the door had taken it isn't known: a program in between may have kept that back"
+_RECEIPT = re.compile(r"door took [1-9][0-9]{0,8} [0-9]{1,10}\.[0-9]{1,10}")
 UNTAKEN = "its time was up before the door took it: nothing was begun"
 
 
@@ -105,23 +107,24 @@ class SharedPipeline(Pipeline):
     # What comes back.
 
     def _hear(self, buffer: str, at: int) -> int:
-        if not buffer.startswith("door ", at):
-            return 0
         end = buffer.find("\n", at)
         if end < 0:
             return -1
-        _, word, *told = buffer[at:end].split(" ")
+        if not buffer.startswith("door ", at):
+            return 0
+        line = buffer[at:end]
+        _, word, *told = line.split(" ")
         with self.lock:
-            if word == "took":
+            if word == "took" and _RECEIPT.fullmatch(line):
                 self._took(int(told[0]), told[1])
-            elif word == "busy":
+            elif word == "busy" and self._untaken:
                 self._wait_for_place()
             elif word == "place":
                 self._enter()
             elif word == "end":
                 self.told_end = " ".join(told)
             else:
-                raise Faulty(f"{buffer[at:end]!r} is no line of a door")
+                raise Faulty(f"{line!r} is no line of a door here")
         self.flush()
         return end + 1
 
@@ -250,7 +253,7 @@ class SharedPipeline(Pipeline):
                 else:
                     self._leave_in_doubt(call)
             for call in waiting:
-                self._ask_anew(call, False)
+                self._ask_anew(call, call in late)
 
     def _taken_and_not(self) -> tuple[list[Call[Any]], list[Call[Any]]]:
         at_door = set(self._untaken)

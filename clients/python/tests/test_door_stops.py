@@ -6,6 +6,7 @@ import asyncio
 import os
 import random
 import signal
+import socket
 import threading
 import time
 import unittest
@@ -15,6 +16,8 @@ from doors import Between, Door, DoorTest, Pusher, children_of
 from programs import LARGE, SHOP, Act, commits, of_shop, wait_until
 import escrow
 from escrow import Outcome, Share
+from escrow.pipeline import Taken
+from escrow.shared import SharedPipeline
 
 TASKS = 16
 Told = dict[str, set[str]]
@@ -201,6 +204,28 @@ class StillTest(DoorTest):
         self.assertEqual(raised.exception.id, of_shop("1.1"))
         self.assertEqual(site.outcome(of_shop("1.1"), timeout=5.0), Outcome.COMMITTED)
         self.assertEqual((site.epoch, site.counts.stops), (1, 0))
+
+
+class PieceTest(DoorTest):
+    """What comes in pieces, and what is no line of a door."""
+
+    def pipeline(self) -> SharedPipeline:
+        """One over a connection whose other end is the test's."""
+        pipeline = SharedPipeline(0, "0" * 64, frozenset(["stock"]), lambda statement: None, None)
+        near, far = socket.socketpair()
+        self.addCleanup(near.close)
+        self.addCleanup(far.close)
+        self.addCleanup(pipeline.reading.close)
+        pipeline.join(1, near, True)
+        return pipeline
+
+    def test_lines(self) -> None:
+        pipeline = self.pipeline()
+        for piece in (b"d", b"oor e", b"nd of it", b"\n"):
+            self.assertEqual(pipeline.take(piece), Taken([], set(), None))
+        self.assertEqual(pipeline.told_end, "of it")
+        for line in ("door busy", "door took 1 1.1", "door took x 1.1", "door took", "door", "door what", "0 begin -> no"):
+            self.assertIsNotNone(self.pipeline().take(f"{line}\n".encode()).fault, line)
 
 
 class BetweenTest(DoorTest):
