@@ -1,14 +1,16 @@
 """Kills a door, its site and the processes that sell through it, so many times, and then judges what was told by the log.
 
-    door_kills.py [KILLS [SEED]]
+    door_kills.py [KILLS [SEED]] [--spare]
 
 KILLS (1000) is how often any of them is killed by SIGKILL, or stands still for a moment (SIGSTOP); SEED (1) is of the moments.
 Four processes of 16 tasks each sell, by `change`, with `before`, and by transactions; two of them with a timeout of 0.3
-seconds. Ends with status 1 where something that was told isn't so.
+seconds. With --spare no process that sells is killed, and each has a timeout of 0.03 to 0.3 seconds: then what was told is
+the log, to the last sale. Ends with status 1 where something that was told isn't so.
 """
 
 from __future__ import annotations
 
+import argparse
 import os
 import random
 import signal
@@ -21,20 +23,23 @@ from programs import LARGE, WORLD, commits, escrow_site
 import escrow
 
 MANY, TASKS = 4, 16
+SHORT = (0.03, 0.1, 0.3, 0.05)
+"""Seconds that each process allows, where none is killed."""
 
 
 class Kills:
     """Who is killed, and what was told by those that were."""
 
-    def __init__(self, door: Door, seed: int) -> None:
-        self.door, self.luck = door, random.Random(seed)
+    def __init__(self, door: Door, seed: int, spares: bool) -> None:
+        self.door, self.luck, self.spares = door, random.Random(seed), spares
         self.pushers = [self.pusher(number) for number in range(MANY)]
         self.told: list[dict[str, set[str]]] = []
         self.counts = dict.fromkeys(("door", "site", "process", "still"), 0)
 
     def pusher(self, number: int) -> Pusher:
         """A process that sells."""
-        return Pusher(self.door.path, TASKS, ("change", "mixed")[number % 2], 0.3 if number < 2 else 20.0)
+        timeout = SHORT[number] if self.spares else 0.3 if number < 2 else 20.0
+        return Pusher(self.door.path, TASKS, ("change", "mixed")[number % 2], timeout)
 
     def kill_one(self) -> None:
         """Kills one of them, or has one stand still for a moment."""
@@ -49,7 +54,7 @@ class Kills:
             if children:
                 self.counts["site"] += 1
                 os.kill(children[0], signal.SIGKILL)
-        elif draw < 0.7:
+        elif draw < 0.7 or self.spares:
             self.counts["still"] += 1
             self.door.stand_still()
             time.sleep(self.luck.uniform(0.0, 0.6))
@@ -82,19 +87,23 @@ def judge(kills: Kills) -> bool:
 
 def main() -> int:
     """Kills, and judges."""
-    many, seed = (int(word) for word in (*sys.argv[1:], *("1000", "1")[len(sys.argv) - 1 :]))
+    parser = argparse.ArgumentParser(description="Kills a door, its site and processes that sell, and judges by the log.")
+    parser.add_argument("kills", type=int, nargs="?", default=1000)
+    parser.add_argument("seed", type=int, nargs="?", default=1)
+    parser.add_argument("--spare", action="store_true", help="kill no process that sells")
+    given = parser.parse_args()
     with tempfile.TemporaryDirectory(prefix="escrow-kills-") as place:
         folder, began = os.path.join(place, "shop"), time.monotonic()
         escrow.create(folder, LARGE, 0, program=escrow_site(), name=WORLD)
-        kills = Kills(Door(folder, os.path.join(place, "door")), seed)
-        while sum(kills.counts.values()) < many:
+        kills = Kills(Door(folder, os.path.join(place, "door")), given.seed, given.spare)
+        while sum(kills.counts.values()) < given.kills:
             kills.kill_one()
         time.sleep(1.0)
         kills.told += [pusher.end() for pusher in kills.pushers]
         status = kills.door.close()
         is_well = judge(kills) and status == 0
         took = time.monotonic() - began
-        print(f"{'well' if is_well else 'NOT WELL'}: {many} in {took:.0f} seconds, load {os.getloadavg()[0]:.1f}")
+        print(f"{'well' if is_well else 'NOT WELL'}: {given.kills} in {took:.0f} seconds, load {os.getloadavg()[0]:.1f}")
     return 0 if is_well else 1
 
 

@@ -75,7 +75,7 @@ class KilledTest(DoorTest):
     def test_a_door_that_is_killed_and_started_again(self) -> None:
         door, luck = self.door(LARGE), random.Random(5)
         pushers = began(door, ("change", "mixed"))
-        for _ in range(5):
+        for _ in range(3):
             time.sleep(luck.uniform(0.1, 0.3))
             door.kill()
             door.start()
@@ -91,6 +91,19 @@ class KilledTest(DoorTest):
         time.sleep(0.3)
         self.judge(door, [pusher.end() for pusher in pushers], 0)
         self.assertIn("the site stopped, status -9", door.text())
+
+    def test_what_is_busy_over_a_door_that_stands_still_is_never_made(self) -> None:
+        door, luck = self.door(LARGE), random.Random(8)
+        pushers = began(door, ("change", "mixed"), 0.05)
+        for _ in range(6):
+            time.sleep(luck.uniform(0.05, 0.2))
+            door.stand_still()
+            time.sleep(luck.uniform(0.05, 0.2))
+            door.go_on()
+        time.sleep(0.3)
+        all_told = [pusher.end() for pusher in pushers]
+        self.assertTrue(any(told.get("busy") for told in all_told))
+        self.judge(door, all_told, 0)
 
     def test_processes_that_are_killed(self) -> None:
         door, luck = self.door(LARGE), random.Random(7)
