@@ -37,9 +37,9 @@ class Door:
         with socket.socket(socket.AF_UNIX) as peer:
             try:
                 peer.connect(self.path)
+                return peer.recv(11) == b"escrow door"
             except OSError:
                 return False
-            return peer.recv(11) == b"escrow door"
 
     def kill(self) -> None:
         """Ends it at once."""
