@@ -4,6 +4,7 @@ site."""
 from __future__ import annotations
 
 import os
+import re
 import threading
 from typing import BinaryIO, NamedTuple, Optional
 
@@ -15,6 +16,8 @@ HEADS = {b"escrow log 1\n": (1, 3), b"escrow log 2\n": (2, 5)}
 SUM, SUM_LINE = b"sum ", 21
 """In version 2 such a line, of so many bytes, closes each batch of records. No record has an `s`, so these stand nowhere
 else."""
+NOTE, _NOTES = b"K", re.compile(rb"^K [^\n]*\n", re.MULTILINE)
+"""A line that begins so notes the key of a commit. It is no record, and its bytes don't count; no record begins so."""
 WINDOW = 1 << 16
 """Bytes of a log that are looked at together."""
 
@@ -43,17 +46,17 @@ class Records:
 
     def length(self) -> int:
         """The bytes of the records: in version 1 of all behind the head, also of a torn end; in version 2 of the batches
-        that a sum closes. Raises `OSError` where the log can't be looked at, and `Down` where it is none."""
+        that a sum closes. Notes of keys aren't counted. Raises `OSError` where the log can't be looked at, and `Down` where
+        it is none."""
         with self._lock, open(self.path, "rb") as log:
             told = os.fstat(log.fileno())
             file = told.st_dev, told.st_ino
             if file != self._file or told.st_size < self._place.end:  # another one was put in its place
                 self._file, self._head = file, _head(log, self.path)
                 self._place = Place(self._head.end, 0)
-            if self._head.version == 1:
-                return told.st_size - self._head.end
-            self._place = _closed(log, self._place, told.st_size)
-            return self._place.length
+            self._place, torn = _looked(log, self._head.version, self._place, told.st_size)
+            is_of_records = self._head.version == 1 and not torn.startswith(NOTE)
+            return self._place.length + len(torn) * is_of_records
 
 
 def length_before_start(path: str, epoch: int) -> Optional[int]:
@@ -64,10 +67,8 @@ def length_before_start(path: str, epoch: int) -> Optional[int]:
         start = find_last(log, b"\nR %d\n" % epoch, os.fstat(log.fileno()).st_size) + 1
         if start <= 0:
             return None
-        place = Place(head.end, 0)
-        if head.version != 1:
-            place = _closed(log, place, start)
-        return place.length + start - place.end
+        place, rest = _looked(log, head.version, Place(head.end, 0), start)
+        return place.length + len(rest) - _bytes_of_notes(rest)
 
 
 def served_between(folder: str, ours: Mark, now: Mark) -> bool:
@@ -111,17 +112,24 @@ def _head(log: BinaryIO, path: str) -> Head:
     return Head(version, len(first) + sum(len(log.readline()) for _ in range(lines - 1)))
 
 
-def _closed(log: BinaryIO, place: Place, limit: int) -> Place:
-    """The place behind the last batch in front of this limit that a sum closes, from the end of an earlier one on."""
+def _looked(log: BinaryIO, version: int, place: Place, limit: int) -> tuple[Place, bytes]:
+    """From an earlier place on the last one in front of this limit, and what stands between both: in version 1 it is behind
+    the last whole line, in version 2 behind the last batch that a sum closes."""
     log.seek(place.end)
     rest, left = b"", limit - place.end
     while left > 0 and (piece := log.read(min(WINDOW, left))):
         left -= len(piece)
         rest += piece
-        end = _end_of_last(rest)
-        place = Place(place.end + end, place.length + end - rest.count(SUM, 0, end) * SUM_LINE)
+        end = rest.rfind(b"\n") + 1 if version == 1 else _end_of_last(rest)
+        sums = 0 if version == 1 else rest.count(SUM, 0, end) * SUM_LINE
+        place = Place(place.end + end, place.length + end - sums - _bytes_of_notes(rest[:end]))
         rest = rest[end:]
-    return place
+    return place, rest
+
+
+def _bytes_of_notes(lines: bytes) -> int:
+    """Of these whole lines the bytes of those that note a key."""
+    return sum(map(len, _NOTES.findall(lines))) if NOTE in lines else 0
 
 
 def _end_of_last(text: bytes) -> int:

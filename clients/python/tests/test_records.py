@@ -11,6 +11,7 @@ import unittest
 from collections.abc import Sequence
 from unittest.mock import patch
 
+import programs  # noqa: F401  (finds the package)
 from escrow import Down, Mark
 from escrow.records import Records, find_last, length_before_start, served_between
 
@@ -88,6 +89,25 @@ class LengthTest(LogTest):
                         self.assertEqual(found.length(), expected, (window, at))
                     os.unlink(self.path)
 
+    def test_notes_of_keys_do_not_count(self) -> None:
+        """Wherever windows and looks end: in version 1 a note that isn't whole yet doesn't either."""
+        noted = (b"R 1\n", b"K 1 1 6F72\nC 1 1 0 -3\n", b"K 1 2 4B\nK 1 3 2E\nC 1 2 0 -3\nC 1 3 0 -3\n", b"K 1 4 4B20\n")
+        lengths = (4, 15, 37, 37)
+        for window in WINDOWS:
+            with patch("escrow.records.WINDOW", window):
+                for make in (text_1, text_2):
+                    for many in range(4):
+                        self.write(make(noted[: many + 1]))
+                        self.assertEqual(Records(self.path).length(), lengths[many], (window, make, many))
+                    self.write(make(()))
+                    found = Records(self.path)
+                    for many in range(4):
+                        self.add(make(noted[: many + 1])[len(make(noted[:many])) :])
+                        self.assertEqual(found.length(), lengths[many], (window, make, many))
+        for torn, more in ((b"K", 0), (b"K 1 5 6", 0), (b"C 1", 3)):
+            self.write(text_1(noted, torn))
+            self.assertEqual(Records(self.path).length(), 37 + more, torn)
+
     def test_what_was_read_is_not_read_again(self) -> None:
         self.write(text_2())
         found = Records(self.path)
@@ -140,6 +160,9 @@ class StartTest(LogTest):
                     self.assertEqual([length_before_start(self.path, it) for it in (1, 2, 3)], [0, 36, None])
         self.write(text_2((b"R 1\n", b"C 1 1 0 -1\nR 2\nC 2 1 0 -1\n")))  # a start within a batch
         self.assertEqual(length_before_start(self.path, 2), 15)
+        for make in (text_1, text_2):  # and notes of keys in front of it
+            self.write(make((b"R 1\n", b"K 1 1 4B\nC 1 1 0 -1\nR 2\nK 2 1 4C\nC 2 1 0 -1\n")))
+            self.assertEqual(length_before_start(self.path, 2), 15)
 
     def test_whether_somebody_else_served_between(self) -> None:
         """Our run began epoch 1, and sold; the one that has just begun is of epoch 3."""
