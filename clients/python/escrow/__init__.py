@@ -15,6 +15,7 @@ from .errors import (
     EscrowError,
     Forged,
     Lost,
+    NoKeys,
     NothingGiven,
     OtherSite,
     OtherWorld,
@@ -35,7 +36,7 @@ from .values import Interval, Kind, Mark, Outcome, Share, Spared, Statement
 
 __all__ = [
     "AsyncSite", "AsyncTransaction", "Backoff", "Busy", "Cause", "Counts", "DeviceFault", "Down", "EscrowError", "Field",
-    "Forged", "Interval", "Kind", "Lost", "Mark", "NothingGiven", "OtherSite", "OtherWorld", "Outcome", "Over",
+    "Forged", "Interval", "Kind", "Lost", "Mark", "NoKeys", "NothingGiven", "OtherSite", "OtherWorld", "Outcome", "Over",
     "ProgramError", "Refusal", "Refused", "Schema", "Share", "Short", "Shown", "Site", "Spared", "Statement",
     "Transaction", "Unknown", "Watch", "__version__", "create", "find_program", "show",
 ]  # fmt: skip

@@ -10,6 +10,7 @@ from typing import Optional, TypeVar, cast
 from .calls import Call, Kept
 from .desk import NEVER, Ask
 from .errors import Busy, Down, Interrupted, Unknown
+from .keys import KeptKey
 from .pipeline import Pipeline
 from .values import Outcome
 from .waiters import ThreadWaiter
@@ -56,7 +57,20 @@ def kept(pipeline: Pipeline, id: str, end: float = NEVER) -> Outcome:
     return ask_behind_stop(pipeline, Kept(id, pipeline.line_id(id)), id, end)
 
 
-def ask_behind_stop(pipeline: Pipeline, call: Call[T], id: Optional[str] = None, end: float = NEVER) -> T:
+def id_of(pipeline: Pipeline, line_id: Optional[str]) -> Optional[str]:
+    """The id of a transaction that lines name so, as callers have it."""
+    return None if line_id is None else pipeline.front + line_id
+
+
+def kept_with(pipeline: Pipeline, key: str, id: Optional[str], end: float = NEVER) -> Optional[str]:
+    """The id of the commit that has this key, where a stop left the answer of a commit with it out: that of the
+    transaction `id`. Raises `Unknown` where it can't be asked."""
+    return id_of(pipeline, ask_behind_stop(pipeline, KeptKey(key), id, end, key))
+
+
+def ask_behind_stop(
+    pipeline: Pipeline, call: Call[T], id: Optional[str] = None, end: float = NEVER, key: Optional[str] = None
+) -> T:
     """Asks of what a stop left in doubt, again behind each further one. Raises `Unknown` where it can't be asked."""
     while True:
         try:
@@ -64,12 +78,12 @@ def ask_behind_stop(pipeline: Pipeline, call: Call[T], id: Optional[str] = None,
         except Interrupted:
             continue
         except (Down, Busy) as fault:
-            raise unknown(pipeline, fault, id) from fault
+            raise unknown(pipeline, fault, id, key) from fault
 
 
-def unknown(pipeline: Pipeline, fault: Exception, id: Optional[str] = None) -> Unknown:
+def unknown(pipeline: Pipeline, fault: Exception, id: Optional[str] = None, key: Optional[str] = None) -> Unknown:
     """What can't be asked behind a stop isn't known: it is counted."""
-    told = Unknown(str(fault), id)
+    told = Unknown(str(fault), id, key)
     pipeline.missed(told)
     return told
 
@@ -79,8 +93,15 @@ async def async_kept(pipeline: Pipeline, ask_: Ask, id: str, end: float = NEVER)
     return await async_ask_behind_stop(pipeline, ask_, Kept(id, pipeline.line_id(id)), id, end)
 
 
+async def async_kept_with(
+    pipeline: Pipeline, ask_: Ask, key: str, id: Optional[str], end: float = NEVER
+) -> Optional[str]:
+    """As `kept_with`."""
+    return id_of(pipeline, await async_ask_behind_stop(pipeline, ask_, KeptKey(key), id, end, key))
+
+
 async def async_ask_behind_stop(
-    pipeline: Pipeline, ask_: Ask, call: Call[T], id: Optional[str] = None, end: float = NEVER
+    pipeline: Pipeline, ask_: Ask, call: Call[T], id: Optional[str] = None, end: float = NEVER, key: Optional[str] = None
 ) -> T:
     """As `ask_behind_stop`."""
     while True:
@@ -89,4 +110,4 @@ async def async_ask_behind_stop(
         except Interrupted:
             continue
         except (Down, Busy) as fault:
-            raise unknown(pipeline, fault, id) from fault
+            raise unknown(pipeline, fault, id, key) from fault

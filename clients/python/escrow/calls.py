@@ -22,6 +22,8 @@ class Run(Protocol):
     number: int
     """The number of the site."""
     epoch: int
+    is_door: bool
+    """Whether lines go to a door, which aborts by itself what a commit with a key leaves open."""
 
     run: int
     """Which process it is, or which connection: later ones have greater numbers."""
@@ -93,6 +95,12 @@ class Call(Awaited, Generic[T]):
         lock; `front` is what stands in front of ids."""
         return Busy(f"{LATE}: it changes nothing, so ask again")
 
+    def reply(self, answer: str, line: str) -> Reply:
+        """What one of its lines was answered. Raises `Faulty` where that doesn't fit it."""
+        if not answer.startswith(line + ARROW):
+            raise Faulty(f"{answer!r} doesn't answer {line!r}")
+        return Reply(line, answer[len(line) + len(ARROW) :])
+
     def told(self, replies: Sequence[Reply]) -> T:
         """What the replies mean, one for each line. Raises `Refused`."""
         raise NotImplementedError
@@ -107,7 +115,7 @@ class Call(Awaited, Generic[T]):
             end = buffer.find("\n", at)
             if end < 0:
                 return -1
-            replies.append(_reply(buffer[at:end], line))
+            replies.append(self.reply(buffer[at:end], line))
             at = end + 1
         try:
             self.answer = self.told(replies)
@@ -135,12 +143,6 @@ class Reply:
         if told[0] != first:
             raise Faulty(f"{self.line!r} was answered {self.text!r}")
         return told
-
-
-def _reply(answer: str, line: str) -> Reply:
-    if not answer.startswith(line + ARROW):
-        raise Faulty(f"{answer!r} doesn't answer {line!r}")
-    return Reply(line, answer[len(line) + len(ARROW) :])
 
 
 class Line(Call[T]):
@@ -277,6 +279,8 @@ class Account(Protocol):
 
     line_id: str
     id: str
+    key: Optional[str]
+    """The key that it is to be committed with, where there is one."""
 
     def named(self, line_id: str) -> None:
         """The site names it so: told where its begin went out before that was known."""
@@ -303,7 +307,7 @@ class Account(Protocol):
         """What it has set aside is given back: nobody waits any more for whether it was."""
 
 
-class Naming(Call[None]):
+class Naming(Call[T]):
     """A call whose lines name a transaction: `own` is how they do, and stands between the pieces of them and of the answers
     where nothing is refused."""
 
@@ -328,7 +332,7 @@ class Naming(Call[None]):
         self.own = id
 
 
-class First(Naming):
+class First(Naming[None]):
     """The first call of a transaction: begin and escrow. `is_placed` tells a door that a place is kept for it."""
 
     __slots__ = ("_account", "_what", "is_placed")
@@ -363,14 +367,14 @@ class First(Naming):
 
     def doubt(self, front: str) -> EscrowError:
         self._account.given_up()
-        return Unknown(f"{LATE}: it is given back", self._account.id)
+        return Unknown(f"{LATE}: it is given back", self._account.id or None, self._account.key)
 
     def told(self, replies: Sequence[Reply]) -> None:
         _begun(replies[0], self.own)
         replies[1].words("granted")
 
 
-class Later(Naming):
+class Later(Naming[None]):
     """A later escrow of a transaction."""
 
     __slots__ = ("_account", "_what")
@@ -389,13 +393,13 @@ class Later(Naming):
 
     def doubt(self, front: str) -> EscrowError:
         self._account.given_up()
-        return Unknown(f"{LATE}: it is given back", self._account.id)
+        return Unknown(f"{LATE}: it is given back", self._account.id, self._account.key)
 
     def told(self, replies: Sequence[Reply]) -> None:
         replies[0].words("granted")
 
 
-class Commit(Naming):
+class Commit(Naming[None]):
     """The commit of a transaction."""
 
     __slots__ = ("_account",)
@@ -421,7 +425,7 @@ class Commit(Naming):
         replies[0].words("committed")
 
 
-class Abort(Naming):
+class Abort(Naming[None]):
     """The abort of a transaction."""
 
     __slots__ = ("_account",)
@@ -444,7 +448,7 @@ class Abort(Naming):
         replies[0].words("aborted")
 
 
-class GiveBack(Naming):
+class GiveBack(Naming[None]):
     """The abort of a transaction whose time is up. Nobody waits for it."""
 
     __slots__ = ()

@@ -131,14 +131,20 @@ class NothingGiven(Refused):
 
 
 class Lost(EscrowError):
-    """A stop of the site came before the commit: the transaction isn't committed, and never will be. Begin anew.
+    """A stop of the site came before the commit: the transaction isn't committed, and never will be. Begin anew, with the
+    same key where there was one.
 
-    `id` is that of the transaction.
+    `id` is that of the transaction, and `key` the one that it was to be committed with.
     """
 
-    def __init__(self, why: str, id: Optional[str] = None) -> None:
-        self.id = id
-        super().__init__(why if id is None else f"transaction {id}: {why}")
+    def __init__(self, why: str, id: Optional[str] = None, key: Optional[str] = None) -> None:
+        self.id, self.key = id, key
+        super().__init__(_of_transaction(why, id, key))
+
+
+def _of_transaction(why: str, id: Optional[str], key: Optional[str]) -> str:
+    of_key = "" if key is None else f"key {key}: "
+    return f"{of_key}{why}" if id is None else f"transaction {id}: {of_key}{why}"
 
 
 class Cause(enum.Enum):
@@ -170,14 +176,16 @@ class Busy(EscrowError):
 
 class Unknown(EscrowError):
     """It was asked, and what happened can't be told now: a stop of the site left the answer out, or its time was up. Tell
-    the customer nothing yet, and don't ask for the same anew: both may happen.
+    the customer nothing yet, and don't ask for the same anew: both may happen. **Where it had a key, do, with the same
+    key**: then it happens once.
 
-    `id` is that of the transaction, where there is one: `Site.outcome` tells of it once the site answers again.
+    `id` is that of the transaction, where there is one: `Site.outcome` tells of it once the site answers again. `key` is
+    the one that it was to be committed with: `Site.kept_key` tells of it.
     """
 
-    def __init__(self, why: str, id: Optional[str] = None) -> None:
-        self.id = id
-        super().__init__(why if id is None else f"transaction {id}: {why}")
+    def __init__(self, why: str, id: Optional[str] = None, key: Optional[str] = None) -> None:
+        self.id, self.key = id, key
+        super().__init__(_of_transaction(why, id, key))
 
 
 class Down(EscrowError):
@@ -215,6 +223,13 @@ class OtherWorld(EscrowError, ValueError):
             f"{id}: this id is of another world ({world}), and this site of {own}: where that world was settled, look in "
             f"its site's old folder: grep '^C {epoch} {number} ' FOLDER/log finds what was committed, and nothing else"
         )
+
+
+class NoKeys(EscrowError):
+    """The program is one that doesn't know keys of callers: nothing was committed. Use a newer `escrow_site`."""
+
+    def __init__(self) -> None:
+        super().__init__("this escrow_site doesn't know keys of callers, so nothing was committed: use a newer escrow_site")
 
 
 class ProgramError(EscrowError):

@@ -1,4 +1,4 @@
-"""The whole numbers that a line has room for, and the ids of transactions."""
+"""The whole numbers that a line has room for, the ids of transactions, and keys of callers."""
 
 from __future__ import annotations
 
@@ -36,6 +36,25 @@ def site_of(number: int) -> int:
     if not 0 <= whole <= 65535:
         raise ValueError(f"{number}: isn't the number of a site, 0 to 65535")
     return whole
+
+
+_KEY = re.compile(r"[A-Za-z0-9._-]{1,64}")
+
+
+def is_key(word: str) -> bool:
+    """Whether this is a key of a caller."""
+    return _KEY.fullmatch(word) is not None
+
+
+def key_of(key: str) -> str:
+    """Raises `ValueError` where this is no key of a caller, 1 to 64 of `A-Z a-z 0-9 . _ -`, and `TypeError` where it is no
+    text."""
+    if not isinstance(key, str):
+        raise TypeError(f"{key!r}: a key is a str")
+    found = _KEY.fullmatch(key)
+    if found is None:
+        raise ValueError(f"{key!r}: isn't a key of 1 to 64 of A-Z a-z 0-9 . _ -")
+    return found[0]
 
 
 SHORT = 8

@@ -30,6 +30,7 @@ from .errors import (
     Unknown,
 )
 from .holding import Holding
+from .keys import KeysUnderWay
 from .numbers import SHORT, change_of, front_of, line_id, read_id
 from .reading import Reading
 from .values import Command, Kind, Share, Spared, Statement
@@ -109,6 +110,8 @@ class Pipeline:
 
     may_part = True
     """Whether what a loop's tasks ask may go out in two parts."""
+    is_door = False
+    """Whether lines go to a door."""
 
     def __init__(
         self,
@@ -131,6 +134,7 @@ class Pipeline:
         self._most_waiting = most_waiting
         self.shapes: dict[tuple[str, int], Shape] = {}
         """By the field and the change."""
+        self.keys = KeysUnderWay()
         # The process, as it now stands.
         self.up = False
         self.dead: Optional[Down] = None
@@ -604,6 +608,7 @@ class Pipeline:
     def let_go(self) -> None:
         """This is a fork of the client: it has no site. Takes no lock, for whoever held one isn't here."""
         self.lock, self._writing, self.reading.turn = threading.Lock(), threading.Lock(), None
+        self.keys = KeysUnderWay()
         self.up, self.dead = False, Down("a fork of the client doesn't have its site: make one in it")
         self._out = []
         self._close()

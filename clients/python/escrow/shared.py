@@ -23,18 +23,20 @@ from typing import Any, Optional
 from .calls import Call, Change, Changes, Commit, First, Left, Naming, Standing
 from .errors import Busy, EscrowError, Faulty, Interrupted, Unknown
 from .holding import Holding
+from .keys import KeyedCommit
 from .pipeline import Pipeline, Watch
 from .values import Statement
 
 UNSURE = "the connection has ended, and whether the door had taken it isn't known: a program in between may have kept that back"
-_RECEIPT = re.compile(r"door took [1-9][0-9]{0,8} [0-9]{1,10}\.[0-9]{1,10}")
 UNTAKEN = "its time was up before the door took it: nothing was begun"
+_COMMITS = {Commit, KeyedCommit}
+_RECEIPT = re.compile(r"door took [1-9][0-9]{0,8} [0-9]{1,10}\.[0-9]{1,10}")
 
 
 class SharedPipeline(Pipeline):
     """As `Pipeline`, over one connection after another. `run` counts them."""
 
-    may_part = False
+    may_part, is_door = False, True
 
     def __init__(
         self, number: int, world: str, fields: frozenset[str], issued: Callable[[Statement], None], watch: Optional[Watch],
@@ -147,7 +149,7 @@ class SharedPipeline(Pipeline):
                 self._name(call, ids)
             lines -= 1
 
-    def _name(self, call: Naming, ids: Iterator[str]) -> None:
+    def _name(self, call: Naming[Any], ids: Iterator[str]) -> None:
         asked = call.own
         if type(call) is First:
             self._names[asked] = next(ids)
@@ -281,9 +283,9 @@ class SharedPipeline(Pipeline):
             call.unasked()
         elif call.again:
             self._place_again(call)
-        elif type(call) is Commit or not call.bound:
+        elif type(call) in _COMMITS or not call.bound:
             told = call.doubt(self.front)
-            self.fail(call, Unknown(UNSURE, getattr(told, "id", None)))
+            self.fail(call, Unknown(UNSURE, getattr(told, "id", None), getattr(told, "key", None)))
         else:
             self.fail(call, call.stopped())
 

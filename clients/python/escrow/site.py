@@ -14,7 +14,7 @@ from functools import partial
 from types import MethodType
 from typing import Any, NoReturn, Optional, Union
 
-from .asking import ask, ask_behind_stop, async_ask_behind_stop, async_kept, end_of, is_kept, kept
+from .asking import ask, ask_behind_stop, async_ask_behind_stop, async_kept, end_of, id_of, is_kept, kept
 from .calls import Change, Kept, Line, Shape
 from .connector import Connector
 from .desk import NEVER, Ask, Desks
@@ -23,7 +23,8 @@ from .errands import Errands
 from .errors import Down, Interrupted
 from .gauges import Gauges
 from .holding import Holding
-from .numbers import SHORT, amount_of, line_id, site_of
+from .keys import KeptKey
+from .numbers import SHORT, amount_of, key_of, line_id, site_of
 from .pipeline import Counts, Pipeline, Watch
 from .program import create, find_program, make_or_find
 from .records import Records
@@ -54,7 +55,8 @@ class Site:
 
     Each call may have a `timeout` in seconds; without one it has the site's, and `math.inf` is none. Where it is up `Busy`
     is raised if nothing was asked, or what was asked changes nothing. Else that is `Unknown`: it may yet happen, and its
-    `id` tells of which transaction `outcome` is to be asked, where it was one.
+    `id` tells of which transaction `outcome` is to be asked, where it was one. What had a `key` may be asked for again, with
+    the same key, after anything.
     """
 
     _is_open = False
@@ -265,8 +267,9 @@ class Site:
         return Transaction(self.pipeline, self._clock, seconds, self.timeout if timeout is None else timeout, self)
 
     def change(
-        self, field: str, change: int, before: Optional[Before] = None, *, timeout: Optional[float] = None
-    ) -> str:
+        self, field: str, change: int, before: Optional[Before] = None, *, key: Optional[str] = None,
+        timeout: Optional[float] = None,
+    ) -> str:  # fmt: skip
         """A transaction of one change in one trip: the id, once it is committed.
 
         Below 0 lowers the field by so many quantities, above 0 raises it. Raises `Short` and other `Refused`, with
@@ -279,8 +282,20 @@ class Site:
         `outcome` of it later. What is refused isn't told to it. Where a stop comes in between it is called again, with
         another id: then those before it aren't committed, and never will be. What it raises comes through, with
         nothing changed. It holds one of the 63 places of open transactions, and may call the site.
+
+        With a `key`, 1 to 64 of `A-Z a-z 0-9 . _ -`, as the number of an order, it happens once at this site, **however often
+        it is asked for with that key**: again after any exception, `Unknown` too, after a cancellation, and after the death
+        of this process, of the program or of a door. The id is that of the commit that has the key: of this call, or of an
+        earlier one, whatever that has changed; then what this call had set aside is given back. So too where the rights are
+        short by now: `Short` is told where no commit has the key by then. Where another call of this process with the key is
+        under way, that is `Busy`: it may commit yet; those of other processes, behind a door, aren't seen. It takes two
+        trips, since the commit of a change that was refused would note the key, and holds a place between them. What `before`
+        was told is the id of this call, which isn't committed where an earlier one was. Raises `NoKeys` where the program
+        doesn't know keys, with nothing committed; `ValueError` or `TypeError`, with nothing asked, where it is none.
         """
         end = end_of(timeout, self.timeout)
+        if key is not None:
+            return self._change_once(field, change, before, key_of(key), end)
         if before is not None:
             return self._change_behind(before, field, change, end)
         shape = self.pipeline.shape(field, change)
@@ -300,6 +315,22 @@ class Site:
             t = self.transaction()
             if t.only(field, change, before, end):
                 return t.id
+
+    def _change_once(self, field: str, change: int, before: Optional[Before], key: str, end: float) -> str:
+        with self.pipeline.keys.one(key):
+            while True:
+                id = self.transaction().once(field, change, before, key, end)
+                if id is not None:
+                    return id
+
+    def kept_key(self, key: str, *, timeout: Optional[float] = None) -> Optional[str]:
+        """The id of the commit that has this key at this site; None where none has it by now, though a call that is under way
+        may commit with it yet. It has it as long as the log is there: neither a new world nor an older copy of the log has.
+
+        Raises `ValueError` or `TypeError` where it is no key, with nothing asked; `NoKeys`; `Down`; `Busy` where its time was
+        up: ask again.
+        """
+        return id_of(self.pipeline, ask(self.pipeline, KeptKey(key_of(key)), end_of(timeout, self.timeout)))
 
     def give(self, to: int, field: str, kind: Kind, amount: int, *, timeout: Optional[float] = None) -> Statement:
         """Gives free rights of a kind to another site: the statement that has to reach it.
@@ -464,7 +495,8 @@ class AsyncSite:
     `async with AsyncSite(folder, ..) as shop` makes a `Site` of that folder, with the same options, and closes it at the
     end. Where a `Site` is given that one stays open: making and closing it block, so make it before the loop runs, and
     close it behind it, or by `asyncio.to_thread`. A task that is cancelled while it waits doesn't learn whether its
-    change was made: shield it, give it a `timeout`, whose `Unknown` has the id, or ask `outcome`.
+    change was made: shield it, give it a `timeout`, whose `Unknown` has the id, or ask `outcome`. Or give it a `key`, with
+    which it may be asked for again.
     """
 
     site: Site
@@ -526,13 +558,16 @@ class AsyncSite:
         return self.timeout if timeout is None else timeout
 
     async def change(
-        self, field: str, change: int, before: Optional[Before] = None, *, timeout: Optional[float] = None
-    ) -> str:
+        self, field: str, change: int, before: Optional[Before] = None, *, key: Optional[str] = None,
+        timeout: Optional[float] = None,
+    ) -> str:  # fmt: skip
         """As `Site.change`. `before` is called in the loop; what it returns is awaited where it can be, as that of an
         `async def`."""
         if timeout is None:
             timeout = self.timeout
         end = NEVER if timeout is None else time.monotonic() + timeout
+        if key is not None:
+            return await self._change_once(field, change, before, key_of(key), end)
         if before is not None:
             return await self._change_behind(before, field, change, end)
         shape = self._shapes.get((field, change)) if type(change) is int else None
@@ -556,6 +591,17 @@ class AsyncSite:
             t = self.transaction()
             if await t.only(field, change, before, end):
                 return t.id
+
+    async def _change_once(self, field: str, change: int, before: Optional[Before], key: str, end: float) -> str:
+        with self._pipeline.keys.one(key):
+            while True:
+                id = await self.transaction().once(field, change, before, key, end)
+                if id is not None:
+                    return id
+
+    async def kept_key(self, key: str, *, timeout: Optional[float] = None) -> Optional[str]:
+        """As `Site.kept_key`."""
+        return id_of(self._pipeline, await self._ask(KeptKey(key_of(key)), end_of(timeout, self.timeout)))
 
     async def _was_made(self, change: Change, end: float) -> bool:
         """Whether it was made, though a stop left its answer out. Raises the answer where there is one."""

@@ -8,12 +8,13 @@ from collections.abc import Callable
 from types import TracebackType
 from typing import Optional
 
-from .asking import ask, async_kept, end_of, kept
+from .asking import ask, async_kept, async_kept_with, end_of, id_of, kept, kept_with
 from .calls import Abort, Call, Commit, First, GiveBack, Later, Run
 from .desk import Ask
 from .errands import Entry, Errands
 from .errors import Busy, Cause, Down, Interrupted, Lost, Over, Refused, Unknown, gone, over
-from .numbers import amount_of, change_of
+from .keys import ANOTHER, KeptKey, KeyedCommit
+from .numbers import amount_of, change_of, key_of
 from .pipeline import Pipeline
 from .values import Outcome
 
@@ -55,6 +56,7 @@ class BaseTransaction:
         self._limit: Optional[Entry] = None
         self._granted = 0
         self.line_id = self.id = ""
+        self.key: Optional[str] = None
 
     @property
     def state(self) -> State:
@@ -183,12 +185,34 @@ class BaseTransaction:
             raise self._gone()
         return self.id
 
-    def _found(self, outcome: Outcome) -> None:
-        """What a stop left of a commit. Raises `Lost` where it wasn't committed, and there was something to commit."""
-        if outcome is not Outcome.COMMITTED and self._granted:
-            lost = Lost("the site stopped before it was committed", self.id)
+    def _ends_with(self, key: Optional[str]) -> None:
+        """It is to be committed, with this key where there is one: so it is from now on. Raises what is wrong with the key."""
+        if key is not None:
+            self.key = key_of(key)
+        self._is_told = True
+
+    def _found(self, is_kept: bool) -> None:
+        """What a stop left of a commit. Raises `Lost` where it isn't kept, and there was something to commit."""
+        if not is_kept and self._granted:
+            lost = Lost("the site stopped before it was committed", self.id, self.key)
             self._pipeline.missed(lost)
             raise lost
+
+    def _kept_or(self, fault: Refused, line_id: Optional[str], has_others: bool) -> str:
+        """The id of the commit that has the key already, where a change with it was refused now. Raises the refusal where
+        none has; where another is under way, `Busy`."""
+        id = id_of(self._pipeline, line_id)
+        if id is not None:
+            return id
+        if not has_others:
+            raise fault
+        busy = Busy(ANOTHER)
+        self._pipeline.missed(busy)
+        raise busy from fault
+
+    def _of_key(self, line_id: Optional[str]) -> str:
+        """The id of the commit that has the key, by what a commit with it was told."""
+        return id_of(self._pipeline, line_id) or self.id
 
 
 class Transaction(BaseTransaction):
@@ -223,24 +247,45 @@ class Transaction(BaseTransaction):
             raise self._gone() from None
         self._granted += 1
 
-    def commit(self, *, timeout: Optional[float] = None) -> None:
-        """Makes the changes permanent.
+    def commit(self, *, key: Optional[str] = None, timeout: Optional[float] = None) -> str:
+        """Makes the changes permanent: the id.
 
         Raises `Lost` or `Over` where nothing was committed, and never will be; `Unknown` where a stop left the answer
         out and the site doesn't stand again in time, or where the call's own time was up; `Down` where the site isn't
         served, and `Busy` where its time was up before it was asked: nothing was committed.
+
+        With a `key`, as that of `Site.change`, it is done once: where a commit with the key is kept already nothing is
+        changed, what was set aside is given back, and the id is that of the earlier one. So after anything, `Unknown` too,
+        all may be done again, with the same key. Where `lower` is `Short` then, ask `Site.kept_key` before you tell anybody.
+        A key is kept where something was set aside. Where nothing was ever asked the id is that of the commit that has the
+        key, or empty. Raises `NoKeys` with nothing committed, and `ValueError` or `TypeError` where it is no key: then
+        nothing was asked, and the transaction is open.
         """
         end = end_of(timeout, self._timeout)
-        self._is_told = True
+        self._ends_with(key)
         if self._unbegun():
-            return
+            return self._never_begun(end)
         try:
+            if self.key is not None:
+                return self._commit_once(self.key, end)
             ask(self._pipeline, Commit(self), end)
         except Interrupted:
-            self._found(kept(self._pipeline, self._begun(), end))
+            self._found(kept(self._pipeline, self._begun(), end) is Outcome.COMMITTED)
         except Busy:
             self._is_told = False
             raise
+        return self.id
+
+    def _never_begun(self, end: float) -> str:
+        return "" if self.key is None else self._of_key(ask(self._pipeline, KeptKey(self.key), end))
+
+    def _commit_once(self, key: str, end: float) -> str:
+        try:
+            return self._of_key(ask(self._pipeline, KeyedCommit(self, key), end))
+        except Interrupted:
+            id = kept_with(self._pipeline, key, self.id, end)
+            self._found(id is not None)
+            return id or self.id
 
     def abort(self, *, timeout: Optional[float] = None) -> None:
         """Gives the rights back. Does nothing where the transaction has ended, as by a stop of the site. Raises
@@ -261,13 +306,8 @@ class Transaction(BaseTransaction):
         """This change alone, with `before` called ahead of the commit: whether it was committed, by this end. It wasn't,
         and never will be, where a stop of the site ended it. Raises what a change, `before` or a commit does, and ends
         it."""
-        try:
-            self._set_aside(field, change, end)
-            if inspect.isawaitable(before(self.id)):
-                raise TypeError("what before returns would have to be awaited: AsyncSite.change does that")
-        except BaseException:
-            self._abort(end)
-            raise
+        self._alone(field, change, end)
+        self._tell(before, end)
         try:
             ask(self._pipeline, Commit(self), end)
         except Interrupted:
@@ -278,6 +318,44 @@ class Transaction(BaseTransaction):
             self._abort(end)
             raise
         return True
+
+    def once(self, field: str, change: int, before: Optional[Before], key: str, end: float) -> Optional[str]:
+        """This change alone, committed with a key: the id of the commit that has it, by this end, which may be an earlier one.
+        None where a stop of the site ended this one, and none has it. Raises as `only`."""
+        self.key = key
+        try:
+            self._alone(field, change, end)
+        except Refused as fault:
+            has_others = self._pipeline.keys.has_others(key)  # asked ahead of what is kept: it may commit in between
+            return self._kept_or(fault, ask(self._pipeline, KeptKey(key), end), has_others)
+        if before is not None:
+            self._tell(before, end)
+        try:
+            return self._of_key(ask(self._pipeline, KeyedCommit(self, key), end))
+        except Interrupted:
+            return kept_with(self._pipeline, key, self.id, end)
+        except Over:
+            return None
+        except Busy:
+            self._abort(end)
+            raise
+
+    def _alone(self, field: str, change: int, end: float) -> None:
+        """Sets its only change aside. Ends it where that can't be."""
+        try:
+            self._set_aside(field, change, end)
+        except BaseException:
+            self._abort(end)
+            raise
+
+    def _tell(self, before: Before, end: float) -> None:
+        """Calls `before`. Ends it where that raises."""
+        try:
+            if inspect.isawaitable(before(self.id)):
+                raise TypeError("what before returns would have to be awaited: AsyncSite.change does that")
+        except BaseException:
+            self._abort(end)
+            raise
 
     def __enter__(self) -> Transaction:
         return self
@@ -324,19 +402,33 @@ class AsyncTransaction(BaseTransaction):
             raise self._gone() from None
         self._granted += 1
 
-    async def commit(self, *, timeout: Optional[float] = None) -> None:
+    async def commit(self, *, key: Optional[str] = None, timeout: Optional[float] = None) -> str:
         """As `Transaction.commit`."""
         end = end_of(timeout, self._timeout)
-        self._is_told = True
+        self._ends_with(key)
         if self._unbegun():
-            return
+            return await self._never_begun(end)
         try:
+            if self.key is not None:
+                return await self._commit_once(self.key, end)
             await self._ask(Commit(self), end)
         except Interrupted:
-            self._found(await async_kept(self._pipeline, self._ask, self._begun(), end))
+            self._found(await async_kept(self._pipeline, self._ask, self._begun(), end) is Outcome.COMMITTED)
         except Busy:
             self._is_told = False
             raise
+        return self.id
+
+    async def _never_begun(self, end: float) -> str:
+        return "" if self.key is None else self._of_key(await self._ask(KeptKey(self.key), end))
+
+    async def _commit_once(self, key: str, end: float) -> str:
+        try:
+            return self._of_key(await self._ask(KeyedCommit(self, key), end))
+        except Interrupted:
+            id = await async_kept_with(self._pipeline, self._ask, key, self.id, end)
+            self._found(id is not None)
+            return id or self.id
 
     async def abort(self, *, timeout: Optional[float] = None) -> None:
         """As `Transaction.abort`."""
@@ -354,14 +446,8 @@ class AsyncTransaction(BaseTransaction):
 
     async def only(self, field: str, change: int, before: Before, end: float) -> bool:
         """As `Transaction.only`; what `before` returns is awaited where it can be."""
-        try:
-            await self._set_aside(field, change, end)
-            told = before(self.id)
-            if inspect.isawaitable(told):
-                await told
-        except BaseException:
-            await self._abort(end)
-            raise
+        await self._alone(field, change, end)
+        await self._tell(before, end)
         try:
             await self._ask(Commit(self), end)
         except Interrupted:
@@ -372,6 +458,44 @@ class AsyncTransaction(BaseTransaction):
             await self._abort(end)
             raise
         return True
+
+    async def once(self, field: str, change: int, before: Optional[Before], key: str, end: float) -> Optional[str]:
+        """As `Transaction.once`; what `before` returns is awaited where it can be."""
+        self.key = key
+        try:
+            await self._alone(field, change, end)
+        except Refused as fault:
+            has_others = self._pipeline.keys.has_others(key)  # asked ahead of what is kept: it may commit in between
+            return self._kept_or(fault, await self._ask(KeptKey(key), end), has_others)
+        if before is not None:
+            await self._tell(before, end)
+        try:
+            return self._of_key(await self._ask(KeyedCommit(self, key), end))
+        except Interrupted:
+            return await async_kept_with(self._pipeline, self._ask, key, self.id, end)
+        except Over:
+            return None
+        except Busy:
+            await self._abort(end)
+            raise
+
+    async def _alone(self, field: str, change: int, end: float) -> None:
+        """As `Transaction._alone`."""
+        try:
+            await self._set_aside(field, change, end)
+        except BaseException:
+            await self._abort(end)
+            raise
+
+    async def _tell(self, before: Before, end: float) -> None:
+        """As `Transaction._tell`; what `before` returns is awaited where it can be."""
+        try:
+            told = before(self.id)
+            if inspect.isawaitable(told):
+                await told
+        except BaseException:
+            await self._abort(end)
+            raise
 
     async def __aenter__(self) -> AsyncTransaction:
         return self

@@ -11,7 +11,7 @@ import re
 from collections.abc import Callable, Sequence
 from typing import Optional
 
-from ..numbers import I64
+from ..numbers import I64, is_key
 from ..values import Mark
 from .connection import Connection
 from .places import Places
@@ -174,6 +174,9 @@ class Planner:
         elif words[0] == "kept" and len(words) == 2:
             self._kept(plan, line, words[1])
             return
+        elif words[:2] == ["kept", "key"] and len(words) == 3 and is_key(words[2]):
+            plan.send(f"{line}\n")
+            return
         elif line == "leave" and plan.who.granted:
             plan.who.granted -= 1
             self.places.give_back(plan.who)
@@ -256,14 +259,17 @@ class Planner:
         return True
 
     def _end(self, plan: Plan, line: str, words: Sequence[str]) -> bool:
-        if len(words) != 3:
+        is_keyed = len(words) == 5 and words[1] == "commit" and words[3] == "key" and is_key(words[4])
+        if len(words) != 3 and not is_keyed:
             return False
-        who, id = plan.who, self._own(plan, line, words[2])
+        who, id = plan.who, self._own(plan, " ".join(words[:3]), words[2])
         if id:
             who.open = {name: it for name, it in who.open.items() if it != id}
             del self._owners[id]
             self.places.give_back(who)
-            plan.send(f"{self._site} {words[1]} {id}\n")
+            plan.send(" ".join((self._site, words[1], id, *words[3:])) + "\n")
+            if is_keyed:  # where a commit with the key is kept already the site leaves it open
+                plan.ask(f"{self._site} abort {id}\n")
         return True
 
     def _own(self, plan: Plan, line: str, name: str) -> str:
