@@ -1,4 +1,4 @@
-"""The examples of the page README.md do what stands there: a first sale, a web service, carts, and several processes."""
+"""The examples of the page README.md do what stands there: a first sale, a web service, carts, several processes, and orders by key."""
 
 from __future__ import annotations
 
@@ -39,7 +39,7 @@ class ReadmeTest(SiteTest):
 
     def test_each_example(self) -> None:
         found = examples()
-        self.assertEqual([typed.split()[2] for typed, _ in found], ["sale.py", "shop.py", "carts.py", "worker.py"])
+        self.assertEqual([typed.split()[2] for typed, _ in found], ["sale.py", "shop.py", "carts.py", "worker.py", "once.py"])
         environment = {**os.environ, "ESCROW_SITE": escrow_site(), "PYTHONPATH": PACKAGES}
         for text, printed in found:
             if "curl " in text and not shutil.which("curl"):
