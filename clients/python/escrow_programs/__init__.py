@@ -62,6 +62,11 @@ def escrow_carrier() -> None:
     _run_module("escrow_carrier")
 
 
+def escrow_door() -> None:
+    """The command `escrow_door`: `python3 -m escrow.door`."""
+    _run_module("escrow.door")
+
+
 def _run_module(name: str) -> None:
     import runpy
 

@@ -116,7 +116,7 @@ class WheelTest(unittest.TestCase):
         self.assertTrue(page.startswith("# escrow: a client of a served site\n"), page[:50])
         self.assertIn("Tag: py3-none-manylinux_2_34_x86_64\n", texts["WHEEL"])
         commands = re.findall(r"^(\w+) = escrow_programs:\1$", texts["entry_points.txt"], re.M)
-        self.assertEqual(commands, ["escrow", "escrow_board", "escrow_carrier", "escrow_site"])
+        self.assertEqual(commands, ["escrow", "escrow_board", "escrow_carrier", "escrow_door", "escrow_site"])
 
 
 class RefusedTest(SiteTest):
