@@ -20,19 +20,19 @@ NAMELESS = (
 
 
 def find_program() -> str:
-    """Where the program is: `$ESCROW_SITE`, or `escrow_site` on the path, or at the top of the repository that this
-    file is in.
+    """Where the program is: where `$ESCROW_SITE` says, or in the wheel that this package is of, or `escrow_site` on the path, or
+    at the top of the repository that this file is in.
 
     Raises `FileNotFoundError` where it is in none of these.
     """
-    named = os.environ.get("ESCROW_SITE") or shutil.which("escrow_site")
-    if named:
-        return named
-    top = os.path.abspath(os.path.join(os.path.dirname(__file__), "..", "..", ".."))
-    here = os.path.join(top, "escrow_site")
-    if not os.access(here, os.X_OK):
-        raise FileNotFoundError("escrow_site isn't on the path: name it by program= or by $ESCROW_SITE")
-    return here
+    packages = os.path.dirname(os.path.dirname(os.path.abspath(__file__)))
+    own, top = os.path.join(packages, "escrow_programs", "bin"), os.path.join(packages, "..", "..")
+    found = os.environ.get("ESCROW_SITE") or shutil.which("escrow_site", path=own) or shutil.which("escrow_site")
+    found = found or shutil.which("escrow_site", path=os.path.abspath(top))
+    if not found:
+        raise FileNotFoundError("escrow_site isn't here: install the wheel that has it, which tools/wheel of the repository "
+                                "makes, or name it by program= or by $ESCROW_SITE")
+    return found
 
 
 def run(

@@ -197,6 +197,19 @@ class InstalledTest(unittest.TestCase):
         self.assertEqual([it.startswith(self.place + "/installed/") for it in found.split()], [True, True, False])
         self.assertEqual(found.split()[2], release())
 
+    def test_without_a_path(self) -> None:
+        """The program of the wheel is found where its commands aren't on the path, as by a service in a venv of its own, and
+        ahead of one that is there: this client's own, and no older one."""
+        other = os.path.join(self.place, "other")
+        os.mkdir(other)
+        with open(os.path.join(other, "escrow_site"), "w", encoding="ascii") as file:
+            file.write("#!/bin/sh\nexit 9\n")
+        os.chmod(os.path.join(other, "escrow_site"), 0o755)
+        for path in ("/usr/bin:/bin", f"{other}:/usr/bin:/bin"):
+            words = [sys.executable, "-c", "import escrow; print(escrow.find_program())"]
+            done = subprocess.run(words, cwd=self.place, env={**self.env, "PATH": path}, stdout=subprocess.PIPE, text=True, check=True)
+            self.assertEqual(done.stdout, f"{self.place}/installed/escrow_programs/bin/escrow_site\n")
+
     def test_the_commands(self) -> None:
         """Each runs its own program or module, and tells what that tells."""
         schema = os.path.join(self.place, "world.json")
