@@ -4,6 +4,7 @@ use Rattle.sealed_text.specs.declared.fault.TextFault.{TextFault}
 use Rattle.sealed_text.specs.declared.fault.TextFault.TheVariants as texts
 use Rattle.sealed_text.specs.declared.reading.Unsealed.{Unsealed}
 use Rattle.sealed_text.specs.Seals.{Unseals, IsDamagedAt}
+use Rattle.caller_keys.specs.Keys.{KeyNote, IsKeyed}
 use Rattle.site_folder.specs.Identity.{IdentityValue, log_name, sealed_log_name}
 use Rattle.folder_logs.specs.declared.fault.LogFault.{LogFault}
 use Rattle.folder_logs.specs.declared.fault.LogFault.TheVariants.{Other, Damaged, NoMemory}
@@ -13,19 +14,26 @@ use Rattle.folder_logs.specs.declared.records.Records.TheVariants as versions
 -- The bytes of the records of a log.
 abbrev pub bytes_of : Records → List ℕ
 bytes_of (versions.Plain records) = records.now
-bytes_of (versions.Unsealed unsealed) = unsealed.records.items
+bytes_of (versions.Taken records) = records.items
 
--- The file is the site's log of version 1: its name, and behind it these records.
-abbrev pub IsPlainLog : IdentityValue → List ℕ → List ℕ → Type 0
-IsPlainLog identity file records = file ≡ log_name identity ++ records
+-- The text has these records, and notes of callers' keys beside them, which are no records.
+pub record HasRecords (text records : List ℕ) : Type 0 where
+  pub notes : List KeyNote
+  pub keyed : IsKeyed text notes records
 
--- The file is the site's log of version 2: its name, and behind it a text of batches that sums close, which has these records.
+-- The file is the site's log of version 1: its name, and behind it a text that has these records.
+pub record IsPlainLog (identity : IdentityValue) (file records : List ℕ) : Type 0 where
+  pub text : List ℕ
+  pub file_is : file ≡ log_name identity ++ text
+  pub has : HasRecords text records
+
+-- The file is the site's log of version 2: its name, and behind it a text of batches that sums close, in which these records stand.
 pub record IsSealedLog (identity : IdentityValue) (file records : List ℕ) : Type 0 where
   pub text : List ℕ
   pub file_is : file ≡ sealed_log_name identity ++ text
   pub unsealed : Unsealed
   pub closed : Unseals text unsealed
-  pub records_are : unsealed.records.items ≡ records
+  pub has : HasRecords unsealed.records.items records
 
 -- The file is the site's log, of either version, and these are its records.
 abbrev pub HoldsRecords : IdentityValue → List ℕ → List ℕ → Type 0

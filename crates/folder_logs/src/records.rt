@@ -2,20 +2,21 @@
 
 ghost use Rattle.std.specs.Prelude.{◌≡◌, ◌≢◌, ◌++◌, ℕ, List, IfOk, IfErr, MatchOption};
 ghost use Rattle.site_folder.specs.Identity.{trace_name};
-ghost use Rattle.folder_logs.specs.Files.{HoldsRecords, IsLogFault, bytes_of};
+ghost use Rattle.folder_logs.specs.Files.{HasRecords, HoldsRecords, IsLogFault, bytes_of};
 
 use crate::fault::LogFault;
-use sealed_text::{Unsealed, unseal};
+use caller_keys::{has_no_marks, split_notes};
+use sealed_text::unseal;
 use site_folder::{Identity, log_name, sealed_log_name, trace_name};
 use std::alloc::{AllocError, Global};
 
-/// The records of a log.
+/// The records of a log, without the lines that note callers' keys.
 #[derive(Drop)]
 pub enum Records<'a> {
-    /// Those of version 1, as they stand in the file.
+    /// Those of version 1, as they stand in the file, where no key is noted among them.
     Plain(&'a [u8]),
-    /// Those of version 2 that sums close.
-    Unsealed(Unsealed),
+    /// Those of version 2 that sums close, and those of version 1 where keys are noted.
+    Taken(Vec<u8>),
 }
 
 impl Records<'_> {
@@ -25,7 +26,7 @@ impl Records<'_> {
     {
         match self {
             Records::Plain(records) => records,
-            Records::Unsealed(unsealed) => unsealed.records.as_slice(),
+            Records::Taken(records) => records.as_slice(),
         }
     }
 }
@@ -38,12 +39,33 @@ fn behind<'a>(bytes: &'a [u8], name: &[u8]) -> Option<&'a [u8]>
     bytes.strip_prefix(name)
 }
 
-/// The records of a log's file, behind its name, which tells its version. Those of version 2 are the
-/// records of its closed batches; those of version 1 all that stands behind the name.
+// The records of a text, without the notes of keys among them.
+fn without_notes(alloc: Global, text: Vec<u8>) -> Result<Vec<u8>, AllocError>
+    ensures has { IfOk result (λ records. HasRecords text.items records.items) }
+{
+    let (_, records) = split_notes(alloc, text)?;
+    Ok(records)
+}
+
+// The same of a text that stands in the file, and is taken as it is where no key is noted.
+fn records_of(alloc: Global, text: &[u8]) -> Result<Records<'_>, AllocError>
+    ensures has { IfOk result (λ records. HasRecords text.now (bytes_of records)) }
+{
+    if has_no_marks(text) {
+        return Ok(Records::Plain(text));
+    }
+    let copy = Vec::from_slice(alloc, text)?;
+    Ok(Records::Taken(without_notes(alloc, copy)?))
+}
+
+/// The records of a log's file, behind its name, which tells its version. Those of version 2 stand in
+/// its closed batches; those of version 1 in all that stands behind the name. Lines that note callers'
+/// keys are left out.
 ///
 /// The fault is `Other` where the bytes begin with the name of no log of this site, and `Damaged`
 /// where a batch of version 2 is. `NoMemory` can come in place of any answer. Costs a SHA-256 over the
-/// world's header, and of version 2 two passes over the text and memory of its length.
+/// world's header, and of version 2 three passes over the text and memory of its length; so too of
+/// version 1 where keys are noted, and else one pass.
 pub fn records_of_log<'a>(
     alloc: Global,
     identity: &Identity,
@@ -55,11 +77,12 @@ pub fn records_of_log<'a>(
 {
     let name = sealed_log_name(alloc, identity)?;
     if let Some(text) = behind(bytes, name.as_slice()) {
-        return Ok(Records::Unsealed(unseal(alloc, text)?));
+        let unsealed = unseal(alloc, text)?;
+        return Ok(Records::Taken(without_notes(alloc, unsealed.records)?));
     }
     let name = log_name(alloc, identity)?;
     match behind(bytes, name.as_slice()) {
-        Some(records) => Ok(Records::Plain(records)),
+        Some(text) => Ok(records_of(alloc, text)?),
         None => Err(LogFault::Other),
     }
 }

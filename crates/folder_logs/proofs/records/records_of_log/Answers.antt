@@ -1,4 +1,4 @@
-use Rattle.std.proofs.Common.{◌≡◌, ℕ, List, ◌++◌, ◌∙◌, ap, sym, refl, inr}
+use Rattle.std.proofs.Common.{◌≡◌, ℕ, List, ◌++◌, ◌∙◌, ap, sym, inr}
 use Rattle.site_folder.specs.Identity.{log_name, sealed_log_name}
 use Rattle.folder_logs.proofs.records.records_of_log.Goals as goal
 
@@ -8,9 +8,9 @@ returns-in-Some-clause-held c = inr (record {
   file_is =
       c.in-Some.ensures.rest
       ∙ ap (λ (n : List ℕ). n ++ c.in-Some.text.now) (c.as_slice.ensures.value ∙ c.in_ok-name.ensures.name);
-  unsealed = c.in_ok-unseal.field-0;
-  closed = c.in_ok-unseal.ensures.ok;
-  records_are = refl;
+  unsealed = c.in_ok-unsealed.unsealed;
+  closed = c.in_ok-unsealed.ensures.ok;
+  has = c.in_ok-without_notes.ensures.has;
 })
 
 pub returns-clause-fault : goal.returns-clause-fault
