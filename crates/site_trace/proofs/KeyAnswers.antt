@@ -1,7 +1,7 @@
 -- A key in front of a space.
 use Rattle.std.proofs.Common.{◌≡◌, ◌≢◌, ℕ, Bool, true, false, List, [], ◌∷◌, ◌++◌, refl, sym, ap, subst, ◌∙◌}
 use Rattle.std.specs.Prelude.{MatchBool}
-use Rattle.std.specs.List.{All, AllPass}
+use Rattle.std.specs.List.{AllPass}
 use Rattle.std.proofs.lemmas.List.Elements.{All-nil, All-cons, All-head, All-tail, All-same}
 use Rattle.caller_keys.specs.Keys.{is_key_byte, IsKey}
 use Rattle.site_trace.specs.Reading.{TellsBehind, TellsKey}
