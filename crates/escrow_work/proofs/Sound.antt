@@ -1,5 +1,6 @@
 -- A trace woven of what workers made is sound, so it is a run of one central store.
-use Rattle.std.proofs.Common.{◌≡◌, ℕ, zero, suc, ◌+◌, ◌<◌, List, [], ◌∷◌, length, get_or, reverse, sym, subst, arith}
+use Rattle.std.proofs.Common.{◌≡◌, ◌⊎◌, ⊎_elim, ℕ, zero, suc, ◌+◌, ◌<◌, List, [], ◌∷◌, length, get_or, reverse, sym, subst, arith}
+use Rattle.std.specs.Prelude.{Result, Ok, Err, IfOk, IfErr, OnOk}
 use Rattle.field_bounds.specs.declared.entry.Command.{Command}
 use Rattle.field_bounds.specs.declared.entry.Entry.{Entry}
 use Rattle.field_bounds.specs.Schema.{SchemaValue}
@@ -10,13 +11,15 @@ use Rattle.site_workers.specs.Scripts.{AreWorked, AllWorked}
 use Rattle.std.specs.Global.{Vec}
 use Rattle.field_bounds.specs.Limits.{IsSchema}
 use Rattle.field_bounds.proofs.Headline.{sound_is_central}
-use Rattle.central_rules.specs.declared.verdict.Rule.{Rule}
 use Rattle.central_rules.specs.declared.verdict.Verdict.TheVariants.{Legal, Illegal}
 use Rattle.central_rules.specs.Verdict.{verdict_of}
 use Rattle.central_rules.proofs.Verdicts.{legal_is_sound, sound_is_legal}
 use Rattle.trace_weave.specs.Weave.{lists_of, NoneWeaves, WeavesLowest}
 use Rattle.site_workers.specs.Scripts.{histories_of}
-use Rattle.escrow_work.specs.Work.{Works, WorksLegally, Sticks}
+use Rattle.script_input.specs.declared.fault.ScriptFault.{ScriptFault}
+use Rattle.script_input.specs.declared.fault.ScriptFault.TheVariants as faults
+use Rattle.escrow_work.specs.Scripts.{HasScripts}
+use Rattle.escrow_work.specs.Work.{Works, WorksLegally, Sticks, IsIllegal, IsWorkOf, MakesNone, work_text}
 use Rattle.trace_weave.proofs.Sound.{woven_is_sound}
 
 runs_at : (schema : SchemaValue) (n : ℕ) (ss : List (List Command)) (hs : List (List Entry)) → AreWorked schema n ss hs → (i : ℕ)
@@ -70,9 +73,36 @@ pub works_legally : (schema : SchemaValue) (ss : List (List Command)) (es : List
     → verdict_of schema es ≡ Legal → WorksLegally schema ss es
 works_legally schema ss es made legal = record { works = made; legal = legal; central = (legal_is_sound schema (reverse es) legal).1 }
 
-pub never_illegal : (schema : SchemaValue) (ss : List (List Command)) (es : List Entry) (at : ℕ) (rule : Rule) → IsSchema schema
-    → Works schema ss es → verdict_of schema es ≡ Illegal at rule → ⊥
-never_illegal schema ss es at rule good made illegal =
+pub never_illegal : (schema : SchemaValue) (ss : List (List Command)) (es : List Entry) → IsSchema schema
+    → Works schema ss es → IsIllegal schema es → ⊥
+never_illegal schema ss es good made illegal =
     let sound : IsSound schema (reverse es) = works_soundly schema ss made.histories (reverse es) made.worked made.woven in
     let legal : verdict_of schema es ≡ Legal = sound_is_legal schema (reverse es) sound (sound_is_central schema good (reverse es) sound) in
+    let other : verdict_of schema es ≡ Illegal illegal.at illegal.rule = illegal.verdict in
     cc
+
+-- of a text, and of why there is none
+module _ {T : Type 0} (schema : SchemaValue) (ss : List (List Command)) (es now : List Entry) (same : now ≡ es) (made : Works schema ss es)
+  where
+    pub text_told : (r : Result T ScriptFault) (bytes : T → List ℕ) (header : List ℕ) → OnOk r (verdict_of schema now ≡ Legal)
+        → IfOk r (λ (t : T). bytes t ≡ work_text schema header now)
+        → IfOk r (λ (t : T). (lines : List (List ℕ)) → HasScripts schema header ss lines → IsWorkOf lines (bytes t))
+    text_told (Err f) bytes header legal told = tt
+    text_told (Ok t) bytes header legal told = λ lines has. record {
+      schema = schema;
+      header = header;
+      scripts = ss;
+      entries = es;
+      good = has;
+      made = works_legally schema ss es made (subst (λ (l : List Entry). verdict_of schema l ≡ Legal) same legal);
+      told = subst (λ (l : List Entry). bytes t ≡ work_text schema header l) same told;
+    }
+
+    pub none_told : (r : Result T ScriptFault) → IsSchema schema
+        → IfErr r (λ (f : ScriptFault). f ≡ faults.Illegal → IsIllegal schema now)
+        → IfErr r (λ (f : ScriptFault). (f ≡ faults.NoMemory) ⊎ (f ≡ faults.Illegal)) → IfErr r (MakesNone schema ss)
+    none_told (Ok t) good illegal which = tt
+    none_told (Err f) good illegal which =
+        ⊎_elim (λ (e : f ≡ faults.NoMemory). subst (λ (w : ScriptFault). MakesNone schema ss w) (sym e) tt)
+        (λ (e : f ≡ faults.Illegal). absurd (never_illegal schema ss es good made
+        (subst (λ (l : List Entry). IsIllegal schema l) same (illegal e)))) which

@@ -7,7 +7,8 @@ use Rattle.field_bounds.specs.declared.entry.Command.{Command}
 use Rattle.field_bounds.specs.declared.entry.Entry.{Entry}
 use Rattle.entry_text.specs.Spelling.{entry_text}
 use Rattle.entry_text.specs.Lines.{max_line}
-use Rattle.central_rules.specs.declared.verdict.Verdict.TheVariants.{Legal}
+use Rattle.central_rules.specs.declared.verdict.Rule.{Rule}
+use Rattle.central_rules.specs.declared.verdict.Verdict.TheVariants.{Legal, Illegal}
 use Rattle.central_rules.specs.Verdict.{verdict_of}
 use Rattle.work_faults.specs.declared.workers.WorkFault.{WorkFault}
 use Rattle.work_faults.specs.declared.workers.WorkFault.TheVariants as work_faults
@@ -35,6 +36,12 @@ pub record WorksLegally (schema : SchemaValue) (scripts : List (List Command)) (
   pub works : Works schema scripts entries
   pub legal : verdict_of schema entries ≡ Legal
   pub central : IsCentral schema (reverse entries)
+
+-- The judge's verdict on the entries is that some rule is broken.
+pub record IsIllegal (schema : SchemaValue) (entries : List Entry) : Type 0 where
+  pub at : ℕ
+  pub rule : Rule
+  pub verdict : verdict_of schema entries ≡ Illegal at rule
 
 -- Workers of these scripts may make histories that no trace weaves.
 pub record Sticks (schema : SchemaValue) (scripts : List (List Command)) : Type 0 where

@@ -8,11 +8,10 @@ ghost use Rattle.script_input.specs.Streams.{HasFailed, GaveNothing, HasRefused,
 ghost use Rattle.escrow_work.specs.Scripts.{HasScripts};
 ghost use Rattle.escrow_work.specs.Work.{work_text, MakesNone, IsWorkOf, WritesWork, Fails, Tells, FaultsIn};
 
-use crate::judged::judged_and_spelled;
+use crate::judged::{LegalText, judged_and_spelled};
 use crate::reading::read_scripts;
 use crate::scripts::Scripts;
 use crate::woven::work_woven;
-use central_rules::Verdict;
 use script_input::{ScriptFault, Sink, Source, write_out};
 use site_desk::FreeGate;
 use std::alloc::Global;
@@ -24,11 +23,11 @@ fn made(
     rt: &(impl Threads + Wait + Sync),
     alloc: Global,
     scripts: Scripts,
-) -> Result<Vec<u8>, ScriptFault>
+) -> Result<LegalText, ScriptFault>
     requires fit { ScriptsFit scripts.schema (scripts_of scripts.rows.items) }
     ensures ok { IfOk result (λ text. (lines : List (List ℕ)) →
         HasScripts scripts.schema scripts.header.items (scripts_of scripts.rows.items) lines →
-        IsWorkOf lines text.items) }
+        IsWorkOf lines text) }
     ensures fault { IfErr result (MakesNone scripts.schema (scripts_of scripts.rows.items)) }
 {
     let Scripts {
@@ -38,11 +37,7 @@ fn made(
     } = scripts;
     let _sites = schema.sites();
     let entries = work_woven(rt, alloc, &schema, rows, &FreeGate)?;
-    let (verdict, text) = judged_and_spelled(rt, alloc, &schema, header, entries.as_slice());
-    match verdict? {
-        Verdict::Legal => Ok(text?),
-        Verdict::Illegal { .. } => Err(ScriptFault::Illegal),
-    }
+    judged_and_spelled(rt, alloc, &schema, header, entries.as_slice())
 }
 
 // Reads the input, and tells the text of its work.
@@ -50,9 +45,9 @@ fn answer<R: Source>(
     rt: &(impl Threads + Wait + Sync),
     alloc: Global,
     reader: &mut R,
-) -> Result<Vec<u8>, ScriptFault>
+) -> Result<LegalText, ScriptFault>
     ensures ok { IfOk result (λ text.
-        Tells (R.bytes reader.old) (R.bytes reader.new) (R.last reader.new) text.items) }
+        Tells (R.bytes reader.old) (R.bytes reader.new) (R.last reader.new) text) }
     ensures fault { IfErr result
         (FaultsIn (R.bytes reader.old) (R.bytes reader.new) (R.last reader.new)) }
     ensures read { IfErr result (λ fault. fault ≡ ScriptFault.Read
@@ -130,5 +125,5 @@ pub fn work_text<R: Source, W: Sink>(
     ensures writes { CountsWrites result (W.refusals writer.old) (W.refusals writer.new) }
 {
     let text = answer(rt, alloc, reader)?;
-    write_out(writer, text.as_slice())
+    write_out(writer, text.bytes())
 }
