@@ -9,7 +9,10 @@ use field_bounds::{Command, Entry, Kind, Schema, SiteNo, Statement};
 use kept_records::MemoryMedium;
 use site_desk::{Blank, Desk, FreeGate, Gate, Receipt};
 use site_workers::inbox::{admit, hire, open_inbox, put};
-use site_workers::{Inbox, Letter, Way, WorkFault, carry, run_workers, scripts_fit};
+use site_workers::{
+    Answer, Inbox, Letter, SiteFault, Way, WorkFault, carry, gather, run_sites, run_workers,
+    scripts_fit,
+};
 use std::alloc::Global;
 use std::marker::Brand;
 use std::process::Abort;
@@ -217,6 +220,78 @@ fn a_worker_that_is_turned_away_ends_the_run(rt: HostRuntime) {
     let one = gifts(&rt, alloc, 0, 10);
     let fault = run_two(&rt, alloc, zero, one, &Third).err();
     assert_eq!(&rt; fault, Some(WorkFault::GateTurns));
+}
+
+/// Whether site 0's worker was turned away, and site 1 has a history of so many entries.
+fn is_turned_at_zero(answers: &[Answer], entries: usize) -> bool {
+    match answers {
+        [Err(SiteFault::Worker(WorkFault::GateTurns)), Ok(history)] => history.len() == entries,
+        _ => false,
+    }
+}
+
+#[test]
+fn each_site_answers_its_own(rt: HostRuntime) {
+    let alloc = rt.alloc();
+    let schema = two(&rt, alloc);
+    let scripts = [gifts(&rt, alloc, 1, 10), gifts(&rt, alloc, 0, 10)];
+    let scripts = Vec::from_array(alloc, scripts).expect(&rt, "memory");
+    assert!(&rt; scripts_fit(&schema, scripts.as_slice()));
+    let answers = run_sites(&rt, alloc, &schema, scripts, &Third).expect(&rt, "answers");
+    assert!(&rt; is_turned_at_zero(&answers, 12));
+}
+
+/// What is told of three answers.
+fn told_of(rt: &impl Abort, alloc: Global, answers: [Answer; 3]) -> Option<WorkFault> {
+    let answers = Vec::from_array(alloc, answers).expect(rt, "memory");
+    assert!(rt; answers.len() == 3);
+    gather(alloc, answers).err()
+}
+
+/// The fault of a site that went back.
+fn went_back(site: u16) -> WorkFault {
+    WorkFault::WentBack {
+        site: SiteNo(site),
+        length: 7,
+    }
+}
+
+/// A history that accepts what nobody issued.
+fn foreign(rt: &impl Abort, alloc: Global) -> Answer {
+    Ok(vec![in alloc; ACCEPTED; 1].expect(rt, "memory"))
+}
+
+#[test]
+fn the_lowest_sites_fault_is_told(rt: HostRuntime) {
+    let alloc = rt.alloc();
+    let none = || -> Answer { Ok(Vec::new(alloc)) };
+    let worker = |fault: WorkFault| -> Answer { Err(SiteFault::Worker(fault)) };
+    let courier = |fault: WorkFault| -> Answer {
+        Err(SiteFault::Courier {
+            fault,
+            receipts: Vec::new(alloc),
+        })
+    };
+    let passes = WorkFault::Passes { site: SiteNo(2) };
+    let close = || -> Answer {
+        Err(SiteFault::Close {
+            fault: WorkFault::Passes { site: SiteNo(2) },
+            receipts: Vec::new(alloc),
+        })
+    };
+    let one = told_of(&rt, alloc, [none(), courier(went_back(1)), close()]);
+    assert_eq!(&rt; one, Some(went_back(1)));
+    let zero = told_of(
+        &rt,
+        alloc,
+        [worker(WorkFault::GateTurns), worker(went_back(1)), close()],
+    );
+    assert_eq!(&rt; zero, Some(WorkFault::GateTurns));
+    let two = told_of(&rt, alloc, [none(), foreign(&rt, alloc), close()]);
+    assert_eq!(&rt; two, Some(passes));
+    let crossed = told_of(&rt, alloc, [none(), foreign(&rt, alloc), none()]);
+    assert_eq!(&rt; crossed, Some(WorkFault::Foreign { site: SiteNo(1) }));
+    assert_eq!(&rt; told_of(&rt, alloc, [none(), none(), none()]), None);
 }
 
 /// Whether gifts at site 0 and so many scripts of a begin fit.
