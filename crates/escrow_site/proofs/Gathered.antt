@@ -10,14 +10,14 @@ use Rattle.log_replay.specs.declared.standing.Standing.{Standing}
 use Rattle.log_replay.specs.Standing.{IsStandingFor}
 use Rattle.world_logs.specs.declared.field_state.FieldState.{FieldState}
 use Rattle.world_logs.specs.declared.field_state.FieldRange.{FieldRange}
-use Rattle.world_logs.specs.Logs.{log_of, AcceptedWithin}
+use Rattle.world_logs.specs.Logs.{AcceptedWithin}
 use Rattle.world_logs.specs.Lost.{known_log, AreRanges}
 use Rattle.world_logs.specs.LostFaults.{KnownWithin}
 use Rattle.world_logs.specs.States.{AreStates, Settles}
 use Rattle.world_logs.specs.Body.{StandFor, AreForLogs}
 use Rattle.world_logs.specs.LostBody.{StandsWhereKnown, StandsIfKnown, AreForKnown, AreForKnownLogs}
 use Rattle.escrow_site.specs.declared.worlds.SiteFolder.{SiteFolder}
-use Rattle.escrow_site.specs.Logs.{AreOutcomesRead, IsOutcomeRead, StandsAsRead, StandAsRead, IsLogRead, AreLogsRead, AccountsFor, SettlesAsRead}
+use Rattle.escrow_site.specs.Logs.{AreOutcomesRead, StandsAsRead, StandAsRead, IsLogRead, AreLogsRead, AccountsFor, SettlesAsRead}
 use Rattle.escrow_site.specs.Lost.{AreKnownOutcomes, IsKnownOutcome, KnownAsRead, IsKnownLog, BoundsAsRead}
 
 -- ---- what there is for each of a list, made one list

@@ -1,14 +1,11 @@
 -- The first line that is written, and the serving behind it.
-use Rattle.std.proofs.Common.{◌≡◌, ℕ, List, Option, refl, sym, subst, inl, inr, ◌∙◌}
-use Rattle.std.specs.Io.KnownBytes.{Appends, IsAtEnd}
+use Rattle.std.proofs.Common.{◌≡◌, ℕ, List, Option, subst, inr}
+use Rattle.std.specs.Io.KnownBytes.{Appends}
 use Rattle.script_input.specs.Streams.{AppendsPrefix}
 use Rattle.log_stand.specs.declared.stand.Stand.{Stand}
 use Rattle.log_stand.specs.Stand.{IsStandOf}
-use Rattle.site_service.specs.declared.fault.ServeFault.{ServeFault}
 use Rattle.site_service.specs.Service.{ServiceValue, IsSettled}
-use Rattle.site_service.specs.Serving.{Serves, Stops, StopsAtOnce}
-use Rattle.site_service.specs.Traces.{TraceValue}
-use Rattle.escrow_site.specs.Serving.{ready_text, TellsReady, StopsAtReady, ServesReady, StopsReady}
+use Rattle.escrow_site.specs.Serving.{ready_text, TellsReady, StopsAtReady}
 
 pub tells : (before after : Option (List ℕ)) (service : ServiceValue) (stand : Stand) (bytes piece : List ℕ) → IsSettled service
     → bytes ≡ service.served.site.bytes → IsStandOf bytes stand → piece ≡ ready_text stand → Appends before after piece
@@ -28,4 +25,3 @@ stops before after service stand bytes piece is stands text written = inr (
   subst (λ (b : List ℕ). IsStandOf b stand) is stands,
   subst (λ (p : List ℕ). AppendsPrefix before after p) text written,
 )
-

@@ -1,5 +1,5 @@
 -- What the logs of a world come to, by the bytes that were read of them (this project).
-use Rattle.std.specs.Prelude.{◌≡◌, ◌<◌, ℕ, List, length, Option, None, Result, Ok, Err, string_bytes, slice_index_or}
+use Rattle.std.specs.Prelude.{◌≡◌, ◌<◌, ℕ, List, length, None, Result, Ok, Err, string_bytes, slice_index_or}
 use Rattle.field_bounds.specs.Schema.{SchemaValue}
 use Rattle.kept_records.specs.declared.record.Record.{Record}
 use Rattle.kept_records.specs.declared.counting.LogCount.{LogCount}
@@ -17,7 +17,6 @@ use Rattle.world_logs.specs.States.{AreStates, Settles}
 use Rattle.world_logs.specs.HeaderText.{header_text}
 use Rattle.field_bounds.specs.Header.{schema_of}
 use Rattle.escrow_site.specs.declared.worlds.SiteFolder.{SiteFolder}
-use Rattle.escrow_site.specs.declared.worlds.World.{World}
 use Rattle.escrow_site.specs.Reading.{IsRead}
 use Rattle.escrow_site.specs.Folders.{IsFolderOf}
 

@@ -1,6 +1,5 @@
 -- Which logs of a world are lost, and what those that are there come to (this project).
 use Rattle.std.specs.Prelude.{◌≡◌, ◌≢◌, ◌<◌, ◌⊎◌, ℕ, Bool, true, false, List, length, Option, Some, None, Result, Ok, Err, string_bytes, slice_index_or, All}
-use Rattle.std.specs.List.{list_any}
 use Rattle.field_bounds.specs.Schema.{SchemaValue}
 use Rattle.field_bounds.specs.declared.id.SiteNo.{SiteNo}
 use Rattle.kept_records.specs.declared.record.Record.{Record}

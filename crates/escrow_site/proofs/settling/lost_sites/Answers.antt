@@ -1,6 +1,6 @@
-use Rattle.std.proofs.Common.{◌≡◌, ℕ, List, [], ◌∷◌, ◌++◌, true, false, All, ap, sym, subst, ◌∙◌, refl, arith}
+use Rattle.std.proofs.Common.{true, false, ap, ◌∙◌, refl, arith}
 use Rattle.field_bounds.specs.declared.id.SiteNo.{SiteNo}
-use Rattle.escrow_site.specs.Lost.{TellsLost, IsNotAmong}
+use Rattle.escrow_site.specs.Lost.{TellsLost}
 use Rattle.escrow_site.proofs.FolderLemmas.{lost_more, others_more, others_past}
 use Rattle.escrow_site.proofs.settling.lost_sites.Goals as goal
 use Rattle.escrow_site.proofs.settling.lost_sites.Goals.{then-branch+in_ok-push, else-branch}

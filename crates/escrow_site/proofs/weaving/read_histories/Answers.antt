@@ -1,4 +1,4 @@
-use Rattle.std.proofs.Common.{ℕ, List, [], ◌∷◌, ◌+◌, ap, sym, subst, ◌∙◌, length, length-append, get_or}
+use Rattle.std.proofs.Common.{ℕ, [], ◌∷◌, ◌+◌, ap, ◌∙◌, length-append}
 use Rattle.std.specs.Global.{Vec}
 use Rattle.field_bounds.specs.declared.entry.Entry.{Entry}
 use Rattle.escrow_site.specs.Traces.{IsHistoryRead}

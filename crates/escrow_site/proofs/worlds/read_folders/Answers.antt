@@ -1,4 +1,4 @@
-use Rattle.std.proofs.Common.{ℕ, List, [], ◌∷◌, ap, sym, subst, ◌∙◌, length, length-append, string_bytes, ◌+◌}
+use Rattle.std.proofs.Common.{ℕ, List, [], ◌∷◌, ap, subst, ◌∙◌, length-append, string_bytes, ◌+◌}
 use Rattle.escrow_site.specs.declared.worlds.SiteFolder.{SiteFolder}
 use Rattle.escrow_site.specs.Folders.{IsSiteFolder, GoesWith}
 use Rattle.escrow_site.proofs.FolderLemmas.{beside_more, named_more}
