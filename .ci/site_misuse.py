@@ -162,7 +162,7 @@ def refuse_command_lines(program: Program) -> None:
             raise Fault(f"escrow_site {' '.join(words)}: {status}, {out!r}, {err!r}")
 
 
-VERSIONS = "escrow_site: reads site 1 2, log 1 2, trace 1; makes site 2, log 2, trace 1; answers ready 1\n"
+VERSIONS = "escrow_site 0.1.0: reads site 1 2, log 1 2, trace 1; makes site 2, log 2, trace 1; answers ready 1\n"
 
 
 def tell_versions(program: Program) -> None:

@@ -46,9 +46,9 @@ fn carry_out(rt: &HostRuntime, task: &Task) -> Result<u8, Fault> {
     Ok(0)
 }
 
-// Which versions of files are read, and which are made. A folder keeps its own for life.
-const VERSIONS: &str =
-    "escrow_site: reads site 1 2, log 1 2, trace 1; makes site 2, log 2, trace 1; answers ready 1";
+// The release, and which versions of files are read and made. A folder keeps its own for life.
+const VERSIONS: &str = "escrow_site 0.1.0: \
+    reads site 1 2, log 1 2, trace 1; makes site 2, log 2, trace 1; answers ready 1";
 
 fn tell_version(rt: &impl Print) -> Result<(), Fault> {
     match println!(rt; "{VERSIONS}") {
