@@ -1,5 +1,5 @@
 -- What was written when a batch is let out, and where the serving ends.
-use Rattle.std.proofs.Common.{◌≡◌, ◌<◌, ◌≤◌, ℕ, List, [], ◌++◌, ◌+◌, ◌⊎◌, Option, Result, length, take, refl, sym, ap, ◌∙◌, subst, inl, inr, append_assoc, append-nil, arith}
+use Rattle.std.proofs.Common.{◌≡◌, ◌<◌, ℕ, List, [], ◌++◌, ◌+◌, ◌⊎◌, Option, Result, length, take, refl, sym, ap, ◌∙◌, subst, inl, inr, append_assoc, append-nil, arith}
 use Rattle.std.proofs.Math.Seq.{take-append-add}
 use Rattle.std.proofs.lemmas.List.{length-append}
 use Rattle.std.specs.Io.KnownBytes.{Appends, Consumes, Keeps}
@@ -7,13 +7,13 @@ use Rattle.std.proofs.KnownBytes.{Appends-trans, Consumes-nil, Consumes-trans, C
 use Rattle.script_input.specs.Lines.{whole_lines, last_part, whole_lines_after, last_part_after}
 use Rattle.script_input.specs.Streams.{AppendsPrefix}
 use Rattle.script_input.proofs.LineLemmas.{whole_lines_after-append, last_part_after-append}
-use Rattle.file_medium.specs.Copies.{IsCopyOf}
 use Rattle.site_service.specs.declared.fault.ServeFault.{ServeFault}
 use Rattle.site_service.specs.declared.fault.ServeFault.TheVariants as faults
 use Rattle.site_service.specs.Answers.{AnswersLines}
-use Rattle.site_service.specs.Service.{ServiceValue, IsSettled, KeepsLog, HasAnsweredAll, LetsOut, HoldsBack}
+use Rattle.site_service.specs.Service.{ServiceValue, HoldsText, IsSettled, KeepsLog, HasAnsweredAll, LetsOut, HoldsBack}
 use Rattle.site_service.specs.Serving.{IsKeptOf, Serves, ServesPart, Stops, StopsAtOnce, IsOutAt, IsLongAt, reads_failed, CountsReads, CountsWrites}
 use Rattle.site_service.specs.Traces.{TraceValue, HasTold, HasKept}
+use Rattle.site_service.proofs.Links.{settled_text}
 use Rattle.site_service.proofs.Lines.{answers_after}
 use Rattle.site_service.proofs.Tracing.{told_none, told_more, kept_of, kept_front}
 
@@ -46,7 +46,7 @@ stops_first from before after trace start now same settled front = record {
   text = [];
   answers = (same, refl);
   out = subst (AppendsPrefix before after) (sym (append-nil start.waiting)) front;
-  safe = settled.safe;
+  safe = settled_text now settled;
   told = kept_of trace trace [] (told_none trace);
   long = tt;
 }
@@ -75,7 +75,7 @@ stops_behind from mid to before after trace half traced start now later line pie
       text = s.text;
       answers = s.answers;
       out = out;
-      safe = subst (λ (k : Option (List ℕ)). IsCopyOf k now.served.site.bytes) (sym same) s.settled.safe;
+      safe = subst (λ (k : Option (List ℕ)). HoldsText k now.served.last now.served.site.bytes) (sym same) (settled_text now s.settled);
       told = told;
       long = long;
     }
@@ -93,7 +93,7 @@ stops_kept from mid to before after trace traced start now line reads part keeps
       text = s.text;
       answers = s.answers;
       out = s.written;
-      safe = s.settled.safe;
+      safe = settled_text now s.settled;
       told = kept_of trace traced s.text s.told;
       long = tt;
     }
@@ -176,7 +176,7 @@ module _ (from mid to before half after : Option (List ℕ)) (trace earlier trac
         answers_read;
     out = subst (AppendsPrefix before after) texts
         (prefix_after before half after (start.waiting ++ part.serves.text) answered.waiting part.serves.written front);
-    safe = settled.safe;
+    safe = settled_text later settled;
     told = kept_of trace traced (part.serves.text ++ all.text) told_batch;
     long = tt;
   }

@@ -1,11 +1,15 @@
 pub mod Stops
 pub mod Whole
+pub mod Unkeyed
+pub mod KeyedTexts
+pub mod Notes
 pub mod Ends
 pub mod Index
 pub mod Rising
 pub mod Links
 pub mod Starts
 pub mod Questions
+pub mod LastWords
 pub mod Told
 pub mod Lines
 pub mod Batches

@@ -1,6 +1,6 @@
 -- What keeps the link between a medium and its log.
-use Rattle.std.proofs.Common.{◌≡◌, ◌≤◌, ℕ, Bool, true, false, List, [], ◌++◌, length, take, drop, Option, None, Some, Result, Ok, Err, IfErr, OnErr, refl, sym, ap, ◌∙◌, subst, arith}
-use Rattle.std.proofs.lemmas.List.{length-append, take-append-le, take-append-drop, take_all}
+use Rattle.std.proofs.Common.{◌≡◌, ℕ, Bool, true, false, List, [], ◌∷◌, ◌++◌, length, take, drop, Option, None, Some, Result, Ok, Err, IfErr, OnErr, refl, sym, ap, ◌∙◌, subst, append_assoc, append-nil, arith}
+use Rattle.std.proofs.lemmas.List.{length-append, take-append-le, take_all, drop_all}
 use Rattle.std.specs.Io.KnownBytes.{Appends, append_known}
 use Rattle.field_bounds.specs.Schema.{SchemaValue}
 use Rattle.field_bounds.specs.declared.id.SiteNo.{SiteNo}
@@ -13,12 +13,19 @@ use Rattle.site_step.specs.Opening.{TellsLine, SparesLogs, fault_of}
 use Rattle.site_step.specs.declared.site.opening.OpenFault.{OpenFault}
 use Rattle.site_step.specs.declared.site.opening.OpenFault.TheVariants.{Device, Line, NoMemory}
 use Rattle.file_medium.specs.Copies.{IsCopyOf}
-use Rattle.site_service.specs.Answers.{Served, Answered}
-use Rattle.site_service.specs.Opening.{HoldsLines, IsStarted, IsOpened, TellsBadLine}
+use Rattle.std.specs.List.{flat_map}
+use Rattle.kept_records.specs.Logs.{IsLog}
+use Rattle.caller_keys.specs.Keys.{KeyNote, note_line, IsKeyed, AreLines, last_txn}
+use Rattle.site_service.specs.declared.kept.KeptCommits.{KeptCommits}
+use Rattle.site_service.specs.Kept.{LastNotes, last_of}
+use Rattle.site_service.specs.Index.{IsIndexOf, AreNoteLines, IsBehind, IsFollowed, IsSoundService}
+use Rattle.site_service.proofs.KeyedTexts.{keyed_more, lines_more, some_line}
+use Rattle.site_service.specs.Answers.{Served, served_of, Answered}
+use Rattle.site_service.specs.Opening.{HoldsRecords, IsSafe, IsStarted, IsOpened, TellsBadLine}
 use Rattle.script_input.specs.Streams.{AppendsPrefix, one_more}
 use Rattle.site_service.specs.declared.fault.ServeFault.{ServeFault}
 use Rattle.site_service.specs.declared.fault.ServeFault.TheVariants as faults
-use Rattle.site_service.specs.Service.{ServiceValue, value_of, IsWhole, Grows, IsLinked, IsSettled, KeepsLog, Tells, TellsEntry, HasApplied, HasAnswered, LetsOut, HoldsBack}
+use Rattle.site_service.specs.Service.{ServiceValue, value_of, IsWhole, Grows, HoldsText, AddsNotesFirst, IsSettled, KeepsLog, Tells, TellsEntry, HasApplied, HasAnswered, LetsOut, HoldsBack}
 
 pub copy_more : (known : Option (List ℕ)) (held more : List ℕ) → IsCopyOf known held → IsCopyOf (append_known known more) (held ++ more)
 copy_more None held more is = is
@@ -27,83 +34,244 @@ copy_more (Some xs) held more is = ap (λ (l : List ℕ). l ++ more) is
 all_of : (bytes : List ℕ) → take (length bytes) bytes ≡ bytes
 all_of bytes = take_all (length bytes) bytes (omega arith)
 
-module _ (schema : SchemaValue) (site : SiteValue) (lines : ℕ) (waiting : List ℕ) (log safe : Option (List ℕ)) (least : Option ℕ) (settled : ℕ) (lost : Bool)
-    (link : IsLinked schema (value_of site lines waiting log safe least settled lost)) where
+-- the text of a settled log
+pub settled_text : (v : ServiceValue) → IsSettled v → HoldsText v.safe v.served.last v.served.site.bytes
+settled_text v settled = record { text = settled.text; copy = settled.safe; is = settled.is }
+
+module _ (schema : SchemaValue) (site : SiteValue) (last : LastNotes) (lines : ℕ) (waiting : List ℕ) (log safe : Option (List ℕ))
+    (least : Option ℕ) (settled : ℕ) (lost : Bool) (kept : KeptCommits) (unlogged : List ℕ)
+    (sound : IsSoundService schema (value_of site last lines waiting log safe least settled lost) kept unlogged) where
   -- the site goes on, and lines are answered
-  pub link_grows : (later : SiteValue) (more : ℕ) (text : List ℕ) → Grows site later
-      → IsLinked schema (value_of later more text log safe least settled lost)
-  link_grows later more text grows =
+  pub sound_grows : (later : SiteValue) (now : LastNotes) (more : ℕ) (text : List ℕ) (set : KeptCommits) (new : List ℕ) → Grows site later
+      → IsIndexOf set later.bytes → ((notes : List KeyNote) → IsBehind notes unlogged last → IsBehind notes new now)
+      → IsSoundService schema (value_of later now more text log safe least settled lost) set new
+  sound_grows later now more text set new grows index noting =
+      let link = sound.linked in
+      let behind = noting link.notes (record { more = link.more; lines = sound.noting; tells = link.tells }) in
       let front : take settled later.bytes ≡ take settled site.bytes =
       ap (take settled) grows.bytes ∙ take-append-le settled site.bytes grows.added link.within in
       record {
-        own = link.own ∙ sym grows.schema;
-        whole = grows.whole;
-        within = omega (arith, link.within, ap length grows.bytes, length-append site.bytes grows.added);
-        safe = subst (IsCopyOf safe) (sym front) link.safe;
-        log = λ sound. subst (IsCopyOf log) (sym front) (link.log sound);
+        linked = record {
+          own = link.own ∙ sym grows.schema;
+          whole = grows.whole;
+          within = omega (arith, link.within, ap length grows.bytes, length-append site.bytes grows.added);
+          text = link.text;
+          lines = link.lines;
+          notes = link.notes;
+          keyed = subst (IsKeyed link.text link.notes) (sym front) link.keyed;
+          more = behind.more;
+          tells = behind.tells;
+          safe = link.safe;
+          log = link.log;
+        };
+        index = index;
+        noting = behind.lines;
       }
 
   -- what waits is another text
-  pub link_waits : (text : List ℕ) → IsLinked schema (value_of site lines text log safe least settled lost)
-  link_waits text = record { own = link.own; whole = link.whole; within = link.within; safe = link.safe; log = link.log }
+  pub sound_waits : (text : List ℕ) → IsSoundService schema (value_of site last lines text log safe least settled lost) kept unlogged
+  sound_waits text =
+      let link = sound.linked in
+      record {
+        linked = record {
+          own = link.own;
+          whole = link.whole;
+          within = link.within;
+          text = link.text;
+          lines = link.lines;
+          notes = link.notes;
+          keyed = link.keyed;
+          more = link.more;
+          tells = link.tells;
+          safe = link.safe;
+          log = link.log;
+        };
+        index = sound.index;
+        noting = sound.noting;
+      }
 
-  -- the log has got the rest of what the medium holds
-  pub link_follows : (fewest : Option ℕ) (grown : Option (List ℕ)) → lost ≡ false → grown ≡ append_known log (drop settled site.bytes)
-      → (now : Option (List ℕ)) → now ≡ grown → (all : ℕ) → all ≡ length site.bytes
-      → IsLinked schema (value_of site lines waiting grown now fewest all lost) × IsSettled (value_of site lines waiting grown now fewest all lost)
-  link_follows fewest grown sound is now same all size =
-      let joined : IsCopyOf (append_known log (drop settled site.bytes)) site.bytes =
-      subst (IsCopyOf (append_known log (drop settled site.bytes))) (take-append-drop settled site.bytes)
-      (copy_more log (take settled site.bytes) (drop settled site.bytes) (link.log sound)) in
-      let copy : IsCopyOf grown site.bytes = subst (λ (k : Option (List ℕ)). IsCopyOf k site.bytes) (sym is) joined in
-      let kept : IsCopyOf now site.bytes = subst (λ (k : Option (List ℕ)). IsCopyOf k site.bytes) (sym same) copy in
-      let taken : take all site.bytes ≡ site.bytes = ap (λ n. take n site.bytes) size ∙ all_of site.bytes in (
-        record {
+  -- more of the medium was looked at
+  pub sound_looked : (set : KeptCommits) → IsIndexOf set site.bytes
+      → IsSoundService schema (value_of site last lines waiting log safe least settled lost) set unlogged
+  sound_looked set index = record { linked = sound.linked; index = index; noting = sound.noting }
+
+  -- a call of the file has failed
+  pub sound_lost : (fewest : Option ℕ) (other now : Option (List ℕ)) → now ≡ safe
+      → IsSoundService schema (value_of site last lines waiting other now fewest settled true) kept unlogged
+  sound_lost fewest other now same =
+      let link = sound.linked in
+      record {
+        linked = record {
+          own = link.own;
+          whole = link.whole;
+          within = link.within;
+          text = link.text;
+          lines = link.lines;
+          notes = link.notes;
+          keyed = link.keyed;
+          more = link.more;
+          tells = link.tells;
+          safe = subst (λ (k : Option (List ℕ)). IsCopyOf k link.text) (sym same) link.safe;
+          log = λ h. cc;
+        };
+        index = sound.index;
+        noting = sound.noting;
+      }
+
+  -- the text that the log holds once it has got the lines of notes, and the rest of what the medium holds
+  abbrev grown_text : List ℕ
+  grown_text = (sound.linked.text ++ unlogged) ++ drop settled site.bytes
+
+  site_log : IsLog site.bytes sound.linked.whole.log.all []
+  site_log = sound.linked.whole.log.log
+
+  grown_keyed : IsKeyed grown_text (sound.linked.notes ++ sound.linked.more) site.bytes
+  grown_keyed =
+      let link = sound.linked in
+      subst (λ (l : List ℕ). IsKeyed ((link.text ++ l) ++ drop settled site.bytes) (link.notes ++ link.more) site.bytes) (sym sound.noting.lines)
+      (keyed_more link.text link.notes link.more settled site.bytes link.whole.log.all link.lines link.keyed sound.noting.each site_log)
+
+  grown_lines : AreLines grown_text
+  grown_lines =
+      let link = sound.linked in
+      subst (λ (l : List ℕ). AreLines ((link.text ++ l) ++ drop settled site.bytes)) (sym sound.noting.lines)
+      (lines_more link.text link.more settled site.bytes link.whole.log.all link.lines site_log)
+
+  grown_copy : lost ≡ false → IsCopyOf (append_known (append_known log unlogged) (drop settled site.bytes)) grown_text
+  grown_copy fine =
+      copy_more (append_known log unlogged) (sound.linked.text ++ unlogged) (drop settled site.bytes)
+      (copy_more log sound.linked.text unlogged (sound.linked.log fine))
+
+  -- the log has got all
+  pub sound_follows : (later : LastNotes) (fewest : Option ℕ) (grown now : Option (List ℕ)) (all : ℕ) (none : List ℕ) → later ≡ last
+      → lost ≡ false → grown ≡ append_known (append_known log unlogged) (drop settled site.bytes) → now ≡ grown → all ≡ length site.bytes
+      → none ≡ [] → IsSoundService schema (value_of site later lines waiting grown now fewest all lost) kept none
+  sound_follows later fewest grown now all none same fine is kept_all size empty =
+      let link = sound.linked in
+      let copy : IsCopyOf grown grown_text = subst (λ (k : Option (List ℕ)). IsCopyOf k grown_text) (sym is) (grown_copy fine) in
+      let taken : take all site.bytes ≡ site.bytes = ap (λ n. take n site.bytes) size ∙ all_of site.bytes in
+      record {
+        linked = record {
           own = link.own;
           whole = link.whole;
           within = omega (arith, size);
-          safe = subst (IsCopyOf now) (sym taken) kept;
-          log = λ h. subst (IsCopyOf grown) (sym taken) copy;
-        },
-        record { sound = sound; log = copy; safe = kept },
-      )
+          text = grown_text;
+          lines = grown_lines;
+          notes = link.notes ++ link.more;
+          keyed = subst (IsKeyed grown_text (link.notes ++ link.more)) (sym taken) grown_keyed;
+          more = [];
+          tells = λ key. ap (λ (f : LastNotes). last_of f key) same ∙ link.tells key
+              ∙ ap (last_txn key) (sym (append-nil (link.notes ++ link.more)));
+          safe = subst (λ (k : Option (List ℕ)). IsCopyOf k grown_text) (sym kept_all) copy;
+          log = λ h. copy;
+        };
+        index = sound.index;
+        noting = record { each = tt; lines = empty };
+      }
 
-  -- a call of the file has failed
-  pub link_lost : (fewest : Option ℕ) (other now : Option (List ℕ)) → now ≡ safe
-      → IsLinked schema (value_of site lines waiting other now fewest settled true)
-  link_lost fewest other now same = record {
-    own = link.own;
-    whole = link.whole;
-    within = link.within;
-    safe = subst (λ (k : Option (List ℕ)). IsCopyOf k (take settled site.bytes)) (sym same) link.safe;
-    log = λ h. cc;
+  pub settled_follows : (later : LastNotes) (fewest : Option ℕ) (grown now : Option (List ℕ)) (all : ℕ) → later ≡ last → lost ≡ false
+      → grown ≡ append_known (append_known log unlogged) (drop settled site.bytes) → now ≡ grown
+      → IsSettled (value_of site later lines waiting grown now fewest all lost)
+  settled_follows later fewest grown now all same fine is kept_all =
+      let copy : IsCopyOf grown grown_text = subst (λ (k : Option (List ℕ)). IsCopyOf k grown_text) (sym is) (grown_copy fine) in
+      record {
+        sound = fine;
+        text = grown_text;
+        is = record {
+          notes = sound.linked.notes ++ sound.linked.more;
+          keyed = grown_keyed;
+          tells = λ key. ap (λ (f : LastNotes). last_of f key) same ∙ sound.linked.tells key;
+        };
+        log = copy;
+        safe = subst (λ (k : Option (List ℕ)). IsCopyOf k grown_text) (sym kept_all) copy;
+      }
+
+  -- notes first
+  pub adds_first : (grown : Option (List ℕ)) → grown ≡ append_known (append_known log unlogged) (drop settled site.bytes) → (text : List ℕ)
+      → IsCopyOf log text → AddsNotesFirst grown text settled site.bytes
+  adds_first grown is text copy = record {
+    notes = sound.linked.more;
+    each = sound.noting.each;
+    copy = subst (λ (k : Option (List ℕ)). IsCopyOf k ((text ++ flat_map note_line sound.linked.more) ++ drop settled site.bytes)) (sym is)
+        (subst (λ (l : List ℕ). IsCopyOf (append_known (append_known log unlogged) (drop settled site.bytes)) ((text ++ l) ++ drop settled site.bytes))
+        sound.noting.lines
+        (copy_more (append_known log unlogged) (text ++ unlogged) (drop settled site.bytes) (copy_more log text unlogged copy)));
   }
 
+  none_more : (more : List KeyNote) → AreNoteLines unlogged more → unlogged ≡ [] → more ≡ []
+  none_more [] noting none = refl
+  none_more (n ∷ ns) noting none =
+      absurd (some_line n (flat_map note_line ns) (sym noting.lines ∙ none))
+
   -- all is settled
-  pub link_all : lost ≡ false → settled ≡ length site.bytes → IsSettled (value_of site lines waiting log safe least settled lost)
-  link_all sound all =
+  pub settled_all : lost ≡ false → settled ≡ length site.bytes → unlogged ≡ []
+      → IsSettled (value_of site last lines waiting log safe least settled lost)
+  settled_all fine all none =
+      let link = sound.linked in
       let whole : take settled site.bytes ≡ site.bytes = ap (λ n. take n site.bytes) all ∙ all_of site.bytes in
+      let nothing : link.notes ++ link.more ≡ link.notes =
+      ap (λ (ns : List KeyNote). link.notes ++ ns) (none_more link.more sound.noting none) ∙ append-nil link.notes in
       record {
-        sound = sound;
-        log = subst (IsCopyOf log) whole (link.log sound);
-        safe = subst (IsCopyOf safe) whole link.safe;
+        sound = fine;
+        text = link.text;
+        is = record {
+          notes = link.notes;
+          keyed = subst (IsKeyed link.text link.notes) whole link.keyed;
+          tells = λ key. link.tells key ∙ ap (last_txn key) nothing;
+        };
+        log = link.log fine;
+        safe = link.safe;
       }
+
+-- nothing is added
+pub adds_nothing : (v : ServiceValue) (text : List ℕ) → v.settled ≡ length v.served.site.bytes → IsCopyOf v.log text
+    → AddsNotesFirst v.log text v.settled v.served.site.bytes
+adds_nothing v text all copy =
+    let none : drop v.settled v.served.site.bytes ≡ [] = drop_all v.settled v.served.site.bytes (omega (arith, all)) in
+    record {
+      notes = [];
+      each = tt;
+      copy = subst (IsCopyOf v.log) (sym (ap (λ (l : List ℕ). (text ++ []) ++ l) none ∙ append-nil (text ++ []) ∙ append-nil text)) copy;
+    }
+
+-- a text that the log held stands in front of what was added
+pub front_safe : (log now : Option (List ℕ)) (first second text : List ℕ) → now ≡ append_known (append_known log first) second
+    → IsCopyOf log text → IsSafe now text
+front_safe None now first second text is copy = subst (λ (k : Option (List ℕ)). IsSafe k text) (sym is) tt
+front_safe (Some xs) now first second text is copy =
+    subst (λ (k : Option (List ℕ)). IsSafe k text) (sym is)
+    (first ++ second, append_assoc xs first second ∙ ap (λ (l : List ℕ). l ++ (first ++ second)) copy)
+
+-- what is safe of it is the text
+pub copy_safe : (safe : Option (List ℕ)) (text : List ℕ) → IsCopyOf safe text → IsSafe safe text
+copy_safe None text copy = tt
+copy_safe (Some xs) text copy = ([], copy ∙ sym (append-nil text))
 
 -- ---- a log that was read
 
 -- a new service over what was read
-pub link_opened : (schema : SchemaValue) (site : SiteValue) (lines : ℕ) (waiting : List ℕ) (log safe : Option (List ℕ)) (least : Option ℕ) (settled : ℕ)
-    (held : List ℕ) → site.schema ≡ schema → IsWhole site → site.bytes ≡ held → settled ≡ length held → IsCopyOf log held
-    → IsCopyOf safe held → IsLinked schema (value_of site lines waiting log safe least settled false)
-link_opened schema site lines waiting log safe least settled held own whole bytes size logged kept =
-    let all : take settled site.bytes ≡ held =
-    ap (λ (bs : List ℕ). take settled bs) bytes ∙ ap (λ n. take n held) size ∙ all_of held in
+pub sound_opened : (schema : SchemaValue) (site : SiteValue) (last : LastNotes) (lines : ℕ) (waiting : List ℕ) (log safe : Option (List ℕ))
+    (least : Option ℕ) (settled : ℕ) (kept : KeptCommits) (unlogged : List ℕ) → site.schema ≡ schema → IsWhole site
+    → settled ≡ length site.bytes → IsFollowed log safe last site.bytes → IsIndexOf kept site.bytes → unlogged ≡ []
+    → IsSoundService schema (value_of site last lines waiting log safe least settled false) kept unlogged
+sound_opened schema site last lines waiting log safe least settled kept unlogged own whole size follows index none =
+    let all : take settled site.bytes ≡ site.bytes = ap (λ n. take n site.bytes) size ∙ all_of site.bytes in
     record {
-      own = sym own;
-      whole = whole;
-      within = omega (arith, size, ap length bytes);
-      safe = subst (IsCopyOf safe) (sym all) kept;
-      log = λ sound. subst (IsCopyOf log) (sym all) logged;
+      linked = record {
+        own = sym own;
+        whole = whole;
+        within = omega (arith, size);
+        text = follows.text;
+        lines = follows.lines;
+        notes = follows.is.notes;
+        keyed = subst (IsKeyed follows.text follows.is.notes) (sym all) follows.is.keyed;
+        more = [];
+        tells = λ key. follows.is.tells key ∙ ap (last_txn key) (sym (append-nil follows.is.notes));
+        safe = follows.safe;
+        log = λ h. follows.log;
+      };
+      index = index;
+      noting = record { each = tt; lines = none };
     }
 
 -- only a bad line is named
@@ -116,12 +284,13 @@ pub not_a_line : (fault : MediumFault) (n : ℕ) → fault_of fault ≡ Line n �
 not_a_line medium_faults.Device n is = cc
 not_a_line medium_faults.NoMemory n is = cc
 
-pub names_line : (schema : SchemaValue) (number : SiteNo) (known : Option (List ℕ)) (held : List ℕ) (fault : OpenFault)
-    → HoldsLines known held → TellsLine schema number.0 held fault → SparesLogs schema number.0 held fault
-    → TellsBadLine schema number known fault
-names_line schema number known held (Line n) lines tells spares = record { held = held; lines = lines; tells = tells; spares = spares }
-names_line schema number known held Device lines tells spares = tt
-names_line schema number known held NoMemory lines tells spares = tt
+pub names_line : (schema : SchemaValue) (number : SiteNo) (known : Option (List ℕ)) (held : List ℕ) (last : LastNotes) (records : List ℕ)
+    (fault : OpenFault) → HoldsRecords known held last records → TellsLine schema number.0 records fault
+    → SparesLogs schema number.0 records fault → TellsBadLine schema number known fault
+names_line schema number known held last records (Line n) holds tells spares =
+    record { held = held; last = last; records = records; holds = holds; tells = tells; spares = spares }
+names_line schema number known held last records Device holds tells spares = tt
+names_line schema number known held last records NoMemory holds tells spares = tt
 
 -- ---- what a release leaves
 
@@ -130,29 +299,31 @@ pub on_write : {T : Type 0} (r : Result T ServeFault) (P : Type 0) (Q : ServeFau
 on_write (Ok x) P Q f is p = tt
 on_write (Err fault) P Q f is p = subst Q (sym is) (f p)
 
-module _ (site : SiteValue) (lines : ℕ) (waiting : List ℕ) (log safe : Option (List ℕ)) (least : Option ℕ) (settled : ℕ) (lost : Bool) (old v : ServiceValue)
-    (is : value_of site lines waiting log safe least settled lost ≡ v) (same : v.waiting ≡ old.waiting) (has : IsSettled v) (left : List ℕ)
+module _ (site : SiteValue) (last : LastNotes) (lines : ℕ) (waiting : List ℕ) (log safe : Option (List ℕ)) (least : Option ℕ) (settled : ℕ)
+    (lost : Bool) (old v : ServiceValue) (is : value_of site last lines waiting log safe least settled lost ≡ v) (same : v.waiting ≡ old.waiting) (has : IsSettled v) (left : List ℕ)
     (none : left ≡ []) where
   texts_same : waiting ≡ old.waiting
   texts_same = ap (λ (s : ServiceValue). s.waiting) is ∙ same
 
-  still_settled : IsSettled (value_of site lines left log safe least settled lost)
-  still_settled = let here = subst IsSettled (sym is) has in record { sound = here.sound; log = here.log; safe = here.safe }
+  still_settled : IsSettled (value_of site last lines left log safe least settled lost)
+  still_settled = let here = subst IsSettled (sym is) has in
+      record { sound = here.sound; text = here.text; is = here.is; log = here.log; safe = here.safe }
 
   pub lets_out : (before after : Option (List ℕ)) → Appends before after waiting
-      → LetsOut before after old (value_of site lines left log safe least settled lost)
+      → LetsOut before after old (value_of site last lines left log safe least settled lost)
   lets_out before after out = record { settled = still_settled; out = subst (Appends before after) texts_same out; waiting = none }
 
   pub holds_back : (before after : Option (List ℕ)) → AppendsPrefix before after waiting
-      → HoldsBack before after old (value_of site lines left log safe least settled lost) faults.Write
+      → HoldsBack before after old (value_of site last lines left log safe least settled lost) faults.Write
   holds_back before after front = (still_settled, subst (AppendsPrefix before after) texts_same front, none)
 
 -- ---- what the calls leave, by the fields
 
-module _ (site : SiteValue) (lines : ℕ) (waiting : List ℕ) (log safe : Option (List ℕ)) (least : Option ℕ) (settled : ℕ) (lost : Bool) (v : ServiceValue)
-    (is : value_of site lines waiting log safe least settled lost ≡ v) where
-  pub log_kept : (later : SiteValue) (more : ℕ) (text : List ℕ) → KeepsLog v (value_of later more text log safe least settled lost)
-  log_kept later more text = record {
+module _ (site : SiteValue) (last : LastNotes) (lines : ℕ) (waiting : List ℕ) (log safe : Option (List ℕ)) (least : Option ℕ) (settled : ℕ)
+    (lost : Bool) (v : ServiceValue) (is : value_of site last lines waiting log safe least settled lost ≡ v) where
+  pub log_kept : (later : SiteValue) (now : LastNotes) (more : ℕ) (text : List ℕ)
+      → KeepsLog v (value_of later now more text log safe least settled lost)
+  log_kept later now more text = record {
     log = ap (λ (s : ServiceValue). s.log) is;
     safe = ap (λ (s : ServiceValue). s.safe) is;
     least = ap (λ (s : ServiceValue). s.least) is;
@@ -164,15 +335,16 @@ module _ (site : SiteValue) (lines : ℕ) (waiting : List ℕ) (log safe : Optio
   waits_same text same = same ∙ ap (λ (s : ServiceValue). s.waiting) is
 
   pub has_applied : (command : Command) (later : SiteValue) (text : List ℕ) → TellsEntry command site later waiting text
-      → HasApplied command v (value_of later lines text log safe least settled lost)
+      → HasApplied command v (value_of later last lines text log safe least settled lost)
   has_applied command later text tells =
-      subst (λ (old : ServiceValue). HasApplied command old (value_of later lines text log safe least settled lost)) is
-      (record { tells = tells; lines = refl })
+      subst (λ (old : ServiceValue). HasApplied command old (value_of later last lines text log safe least settled lost)) is
+      (record { tells = tells; last = refl; lines = refl })
 
-  pub has_answered : (line : List ℕ) (later : SiteValue) (number : ℕ) (text : List ℕ) → number ≡ one_more lines
-      → Tells line site number later waiting text → HasAnswered line v (value_of later number text log safe least settled lost)
-  has_answered line later number text counted tells =
-      subst (λ (old : ServiceValue). HasAnswered line old (value_of later number text log safe least settled lost)) is
+  pub has_answered : (line : List ℕ) (later : SiteValue) (now : LastNotes) (number : ℕ) (text : List ℕ) → number ≡ one_more lines
+      → Tells line (served_of site last lines) (served_of later now number) waiting text
+      → HasAnswered line v (value_of later now number text log safe least settled lost)
+  has_answered line later now number text counted tells =
+      subst (λ (old : ServiceValue). HasAnswered line old (value_of later now number text log safe least settled lost)) is
       (record { text = tells.text; answer = record { counted = counted; answer = tells.answer }; added = tells.added })
 
 -- what a restarted site leaves, once that is settled
@@ -184,29 +356,33 @@ applied_on command old mid new has served waiting = record {
     answered = subst (λ (s : Served). Answered old.served.site command s.site has.tells.text) (sym served) has.tells.answered;
     added = waiting ∙ has.tells.added;
   };
+  last = ap (λ (s : Served). s.last) served ∙ has.last;
   lines = ap (λ (s : Served). s.lines) served ∙ has.lines;
 }
 
 -- a site that was opened and restarted
-pub is_started : (opened : SiteValue) (lines : ℕ) (waiting : List ℕ) (log safe : Option (List ℕ)) (least : Option ℕ) (settled : ℕ)
-    (lost : Bool) (now : ServiceValue) → lines ≡ 0 → waiting ≡ []
-    → HasApplied Restart (value_of opened lines waiting log safe least settled lost) now → IsSettled now → IsStarted opened now
-is_started opened lines waiting log safe least settled lost now zero none has all =
+pub is_started : (opened : SiteValue) (last : LastNotes) (lines : ℕ) (waiting : List ℕ) (log safe : Option (List ℕ)) (least : Option ℕ)
+    (settled : ℕ) (lost : Bool) (now : ServiceValue) → lines ≡ 0 → waiting ≡ []
+    → HasApplied Restart (value_of opened last lines waiting log safe least settled lost) now → IsSettled now → IsStarted opened last now
+is_started opened last lines waiting log safe least settled lost now zero none has all =
     let text : has.tells.text ≡ now.waiting =
     sym (has.tells.added ∙ ap (λ (t : List ℕ). t ++ has.tells.text) none) in
     record {
       restarted = subst (Answered opened Restart now.served.site) text has.tells.answered;
+      last = has.last;
       none = has.lines ∙ zero;
       settled = all;
     }
 
 -- and a log's
-pub is_opened : (schema : SchemaValue) (number : SiteNo) (known : Option (List ℕ)) (opened : SiteValue) (now : ServiceValue)
-    → HoldsLines known opened.bytes → Opens schema number opened.bytes 0 opened → IsStarted opened now
-    → IsOpened schema number known now
-is_opened schema number known opened now holds opens started = record {
-  held = opened.bytes;
-  lines = holds;
+pub is_opened : (schema : SchemaValue) (number : SiteNo) (known : Option (List ℕ)) (held : List ℕ) (last : LastNotes) (opened : SiteValue)
+    (now : ServiceValue) → HoldsRecords known held last opened.bytes → Opens schema number opened.bytes 0 opened
+    → IsStarted opened last now → IsOpened schema number known now
+is_opened schema number known held last opened now holds opens started = record {
+  held = held;
+  last = last;
+  records = opened.bytes;
+  holds = holds;
   opened = opened;
   opens = opens;
   started = started;

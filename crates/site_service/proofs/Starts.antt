@@ -1,12 +1,12 @@
 -- What a start keeps of a log.
-use Rattle.std.proofs.Common.{◌≡◌, ◌≤◌, ◌-◌, ◌+◌, ℕ, List, [], ◌++◌, length, take, drop, Option, None, Some, sym, ap, ◌∙◌, subst, append_assoc, arith}
+use Rattle.std.proofs.Common.{◌≡◌, ◌≤◌, ◌-◌, ◌+◌, ℕ, Bool, false, List, [], ◌++◌, length, take, Option, None, Some, sym, ap, ◌∙◌, subst, append_assoc, arith}
 use Rattle.std.proofs.Math.Nat.{le-min}
 use Rattle.std.proofs.Math.Seq.{take-append_seam, take-append-add}
 use Rattle.std.proofs.lemmas.List.{length-append, append_cancel_right}
 use Rattle.script_input.specs.Lines.{last_part}
 use Rattle.file_medium.specs.Files.{cut_known, least_known, AreThere, IsSpared}
 use Rattle.file_medium.specs.Copies.{IsCopyOf}
-use Rattle.site_service.specs.Opening.{AreLines, HoldsLines, IsSafe, KeepsLines, SparesLines}
+use Rattle.site_service.specs.Opening.{AreLines, HoldsLines, HoldsWhole, IsSafe, KeepsLines, SparesLines}
 use Rattle.site_service.proofs.Whole.{last_behind, last_unbroken}
 
 -- ---- the whole lines of bytes
@@ -30,11 +30,32 @@ held_there None held holds = tt
 held_there (Some xs) held holds =
     omega (arith, ap length holds.copy, ap length holds.lines.parts, length-append held holds.torn)
 
+-- those of so many bytes
+pub whole_there : (known : Option (List ℕ)) (whole : ℕ) (torn : Bool) → HoldsWhole known whole torn → AreThere whole known
+whole_there known whole torn holds = subst (λ (n : ℕ). AreThere n known) (sym holds.size) (held_there known holds.held holds.lines)
+
+-- are all of the file, for each that are its whole lines
+pub whole_all : (known : Option (List ℕ)) (whole : ℕ) (torn : Bool) → HoldsWhole known whole torn → torn ≡ false → (held : List ℕ)
+    → HoldsLines known held → IsCopyOf known held
+whole_all None whole torn holds none held lines = tt
+whole_all (Some xs) whole torn holds none held lines =
+    let one = held_one xs held holds.held holds.lines.torn lines (subst (λ (b : List ℕ). AreLines b holds.held holds.lines.torn) (sym holds.lines.copy) holds.lines.lines) in
+    holds.all none ∙ one
+
 -- and is cut to them
 pub held_cut : (known : Option (List ℕ)) (held : List ℕ) → HoldsLines known held → IsCopyOf (cut_known (length held) known) held
 held_cut None held holds = tt
 held_cut (Some xs) held holds =
     ap (take (length held)) (holds.copy ∙ holds.lines.parts) ∙ take-append_seam held holds.torn
+
+-- and the file is cut to each such
+pub whole_cut : (known now : Option (List ℕ)) (whole : ℕ) (torn : Bool) → HoldsWhole known whole torn → now ≡ cut_known whole known
+    → (held : List ℕ) → HoldsLines known held → IsCopyOf now held
+whole_cut None now whole torn holds cut held lines = subst (λ (k : Option (List ℕ)). IsCopyOf k held) (sym cut) tt
+whole_cut (Some xs) now whole torn holds cut held lines =
+    let one = held_one xs held holds.held holds.lines.torn lines (subst (λ (b : List ℕ). AreLines b holds.held holds.lines.torn) (sym holds.lines.copy) holds.lines.lines) in
+    let size : length held ≡ whole = ap length (sym one) ∙ sym holds.size in
+    subst (λ (k : Option (List ℕ)). IsCopyOf k held) (sym (cut ∙ ap (λ (n : ℕ). cut_known n (Some xs)) (sym size))) (held_cut (Some xs) held lines)
 
 -- ---- what is safe of them
 
@@ -89,11 +110,6 @@ spares_cut None was now held holds cut = tt
 spares_cut (Some bytes) was now held holds cut = λ lines torn are front within had.
     let size = ap length (held_one bytes held lines torn holds are) in
     subst (λ (k : Option ℕ). IsSpared front k) (sym cut) (spared_least (length held) was front (omega (arith, within, size)) had)
-
--- all is safe that was read and what came behind it
-pub safe_copy : (now : Option (List ℕ)) (all held added : List ℕ) → IsCopyOf now all → all ≡ held ++ added → IsSafe now held
-safe_copy None all held added copy is = tt
-safe_copy (Some xs) all held added copy is = (added, copy ∙ is)
 
 -- ---- where the file was only read before
 

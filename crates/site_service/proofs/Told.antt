@@ -1,8 +1,10 @@
 -- What a line or a command adds to the output.
-use Rattle.std.proofs.Common.{◌≡◌, ◌<◌, ℕ, Bool, List, [], ◌∷◌, ◌++◌, length, refl, ap, ◌∙◌, subst, inl, inr, arith}
+use Rattle.std.proofs.Common.{◌≡◌, ◌<◌, ◌⊎◌, ℕ, ◌+◌, ◌-◌, Bool, take, codes, List, [], ◌∷◌, ◌++◌, length, Option, Some, None, Result, Ok, Err, OnErr, refl, sym, ap, ◌∙◌, subst, inl, inr, arith}
+use Rattle.std.proofs.lemmas.List.{length-append, take_at}
 use Rattle.field_bounds.specs.Schema.{SchemaValue}
 use Rattle.field_bounds.specs.declared.id.SiteNo.{SiteNo}
 use Rattle.field_bounds.specs.declared.entry.Command.{Command}
+use Rattle.field_bounds.specs.declared.entry.Command.TheVariants.{Commit}
 use Rattle.field_bounds.specs.declared.entry.Reply.{Reply}
 use Rattle.entry_text.specs.Spelling.{entry_text}
 use Rattle.entry_text.specs.Lines.{max_line}
@@ -11,61 +13,186 @@ use Rattle.site_service.specs.declared.bad_line.BadLine.{BadLine}
 use Rattle.site_service.specs.declared.bad_line.BadLine.TheVariants.{TooLong, OtherSite, UnknownWord, NoField, NoCommand}
 use Rattle.field_bounds.specs.declared.id.TxnId.{TxnId}
 use Rattle.entry_text.specs.Ranges.{IdFits}
-use Rattle.site_service.specs.Kept.{TellsCommit, kept_text, kept_words}
-use Rattle.site_service.specs.Answers.{Asks, IsBad, bad_text}
+use Rattle.caller_keys.specs.Keys.{IsKey}
+use Rattle.site_service.specs.Kept.{LastNotes, TellsCommit, TellsKey, kept_text, kept_words, kept_key_text, kept_key_words}
+use Rattle.site_service.specs.Answers.{Served, served_of, IsStill, Asks, AsksCommit, Answered, CarriedOut, LeavesCommand, NotesCommit, CommitsWith, CommittedWithKey, IsBad, bad_text, Passed, LeavesAnswer}
 use Rattle.site_service.specs.Service.{Tells, TellsEntry}
 
+-- where an error is told anything holds of it that holds
+pub any_err : {T E : Type 0} (r : Result T E) (P : Type 0) → P → OnErr r P
+any_err (Ok x) P p = tt
+any_err (Err e) P p = p
+
 -- an entry's text with another name for the schema and the number
-pub told_entry : (schema : SchemaValue) (number : SiteNo) (old new : SiteValue) (command : Command) (reply : Reply) (out grown : List ℕ)
-    → schema ≡ old.schema → number ≡ old.site → Applies old command reply new
-    → grown ≡ out ++ (entry_text schema (record { site = number; command = command; reply = reply }) ++ 10 ∷ [])
-    → TellsEntry command old new out grown
-told_entry schema number old new command reply out grown own is applies added =
-    let text : SchemaValue → SiteNo → List ℕ =
-    λ (s : SchemaValue) (n : SiteNo). entry_text s (record { site = n; command = command; reply = reply }) ++ 10 ∷ [] in
-    record {
-      text = text schema number;
-      answered = record {
-        reply = reply;
-        applies = applies;
-        told = ap (λ (s : SchemaValue). text s number) own ∙ ap (λ (n : SiteNo). text old.schema n) is;
-      };
+module _ (schema : SchemaValue) (number : SiteNo) (old new : SiteValue) (own : schema ≡ old.schema) (is : number ≡ old.site) (command : Command)
+    (reply : Reply) (applies : Applies old command reply new) where
+  abbrev pub entry_line : SchemaValue → SiteNo → List ℕ
+  entry_line s n = entry_text s (record { site = n; command = command; reply = reply }) ++ 10 ∷ []
+
+  lines_same : entry_line schema number ≡ entry_line old.schema old.site
+  lines_same = ap (λ (s : SchemaValue). entry_line s number) own ∙ ap (entry_line old.schema) is
+
+  pub answered_entry : Answered old command new (entry_line schema number)
+  answered_entry = record { reply = reply; applies = applies; told = lines_same }
+
+  pub told_entry : (out grown : List ℕ) → grown ≡ out ++ entry_line schema number → TellsEntry command old new out grown
+  told_entry out grown added = record { text = entry_line schema number; answered = answered_entry; added = added }
+
+  pub left_entry : LeavesCommand old command new
+  left_entry = inr (entry_line schema number, answered_entry)
+
+-- a commit with a key
+module _ (schema : SchemaValue) (number : SiteNo) (old new : SiteValue) (own : schema ≡ old.schema) (is : number ≡ old.site) (txn : TxnId)
+    (reply : Reply) (applies : Applies old (Commit txn) reply new) (last later : LastNotes) (key : List ℕ)
+    (notes : NotesCommit last later key txn reply) where
+  abbrev pub commit_line : List ℕ
+  commit_line = entry_text schema (record { site = number; command = Commit txn; reply = reply }) ++ 10 ∷ []
+
+  pub commits_with : CommitsWith old last txn key new later commit_line
+  commits_with = record {
+    answered = record {
+      reply = reply;
+      applies = applies;
+      told = lines_same schema number old new own is (Commit txn) reply applies;
+    };
+    notes = notes;
+  }
+
+module _ (schema : SchemaValue) (number : SiteNo) (old : SiteValue) (own : schema ≡ old.schema) (is : number ≡ old.site) (last : LastNotes)
+    (before count : ℕ) where
+  abbrev was : Served
+  was = served_of old last before
+
+  abbrev now : Served
+  now = served_of old last count
+
+  still : IsStill was now
+  still = record { site = refl; last = refl }
+
+  asks_here : (line : List ℕ) (command : Command) → Asks schema number line command → Asks old.schema old.site line command
+  asks_here line command asks =
+      subst (λ (n : SiteNo). Asks old.schema n line command) is (subst (λ (s : SchemaValue). Asks s number line command) own asks)
+
+  -- a command
+  carried_out : (line : List ℕ) (command : Command) (new : SiteValue) (text : List ℕ) → Asks schema number line command
+      → Answered old command new text → CarriedOut was line (served_of new last count) text
+  carried_out line command new text asks answered =
+      record { command = command; asks = asks_here line command asks; answered = answered; last = refl }
+
+  pub told_command : (out grown line : List ℕ) (command : Command) (new : SiteValue) → Asks schema number line command
+      → TellsEntry command old new out grown → Tells line was (served_of new last count) out grown
+  told_command out grown line command new asks told =
+      record { text = told.text; answer = inl (carried_out line command new told.text asks told.answered); added = told.added }
+
+  pub left_command : (line : List ℕ) (command : Command) (new : SiteValue) → Asks schema number line command
+      → LeavesCommand old command new → LeavesAnswer was line (served_of new last count)
+  left_command line command new asks (inl same) = inl (record { site = same; last = refl })
+  left_command line command new asks (inr did) = inr (did.0, inl (carried_out line command new did.0 asks did.1))
+
+  -- nothing was done
+  pub left_still : (line : List ℕ) → LeavesAnswer was line now
+  left_still line = inl still
+
+  -- a line that asks nothing
+  passed : (line : List ℕ) (why : BadLine) → IsBad schema number line why → Passed was line now (bad_text count why)
+  passed line why bad =
+      record {
+        why = why;
+        bad = subst (λ (n : SiteNo). IsBad old.schema n line why) is (subst (λ (s : SchemaValue). IsBad s number line why) own bad);
+        still = still;
+        told = refl;
+      }
+
+  pub told_bad : (out grown line : List ℕ) (why : BadLine) → IsBad schema number line why → grown ≡ out ++ bad_text count why
+      → Tells line was now out grown
+  told_bad out grown line why bad added =
+      record { text = bad_text count why; answer = inr (inr (inr (inr (inr (passed line why bad))))); added = added }
+
+  -- of one that is too long the answer is that of another
+  pub told_long : (out grown line whole : List ℕ) (why : BadLine) → max_line < length line → max_line < length whole
+      → IsBad schema number line why → grown ≡ out ++ bad_text count why → Tells whole was now out grown
+  told_long out grown line whole TooLong long more bad added = told_bad out grown whole TooLong more added
+  told_long out grown line whole OtherSite long more bad added = absurd (omega (arith, long, bad.0))
+  told_long out grown line whole UnknownWord long more bad added = absurd (omega (arith, long, bad.0.short))
+  told_long out grown line whole NoField long more bad added = absurd (omega (arith, long, bad.0.short))
+  told_long out grown line whole NoCommand long more bad added = absurd (omega (arith, long, bad.0.short))
+
+  -- a question for a commit
+  pub told_commit : (out grown line : List ℕ) (txn : TxnId) → IdFits txn × (line ≡ kept_text txn)
+      → (kept : Bool) × TellsCommit old.bytes txn kept × (grown ≡ out ++ (line ++ kept_words kept)) → Tells line was now out grown
+  told_commit out grown line txn asks told = record {
+    text = line ++ kept_words told.0;
+    answer = inr (inr (inr (inl (record {
+      txn = txn;
+      fits = asks.0;
+      asked = asks.1;
+      kept = told.0;
+      tells = told.1;
+      still = still;
+      told = refl;
+    }))));
+    added = told.2;
+  }
+
+  -- a question for a key
+  pub told_key : (out grown line key : List ℕ) → IsKey key × (line ≡ kept_key_text key)
+      → (kept : Option TxnId) × TellsKey old.bytes last key kept × (grown ≡ out ++ (kept_key_text key ++ kept_key_words kept))
+      → Tells line was now out grown
+  told_key out grown line key asks told = record {
+    text = kept_key_text key ++ kept_key_words told.0;
+    answer = inr (inr (inr (inr (inl (record {
+      key = key;
+      is_key = asks.0;
+      asked = asks.1;
+      kept = told.0;
+      tells = told.1;
+      still = still;
+      told = ap (λ (l : List ℕ). l ++ kept_key_words told.0) (sym asks.1);
+    })))));
+    added = told.2;
+  }
+
+  -- a commit with a key
+  module _ (line : List ℕ) (txn : TxnId) (key : List ℕ) (asks : AsksCommit schema number line txn key) where
+    commit_here : AsksCommit old.schema old.site line txn key
+    commit_here = subst (λ (n : SiteNo). AsksCommit old.schema n line txn key) is (subst (λ (s : SchemaValue). AsksCommit s number line txn key) own asks)
+
+    pub told_refused : (out grown : List ℕ) (kept : TxnId) → TellsKey old.bytes last key (Some kept)
+        → grown ≡ out ++ (kept_key_text key ++ kept_key_words (Some kept)) → Tells line was now out grown
+    told_refused out grown kept tells added = record {
+      text = kept_key_text key ++ kept_key_words (Some kept);
+      answer = inr (inr (inl (record {
+        txn = txn;
+        key = key;
+        asks = commit_here;
+        other = kept;
+        tells = tells;
+        still = still;
+        told = refl;
+      })));
       added = added;
     }
 
-module _ (schema : SchemaValue) (number : SiteNo) (old : SiteValue) (own : schema ≡ old.schema) (is : number ≡ old.site) (count : ℕ)
-    (out grown : List ℕ) where
-  -- a command
-  pub told_command : (line : List ℕ) (command : Command) (new : SiteValue) → Asks schema number line command
-      → TellsEntry command old new out grown → Tells line old count new out grown
-  told_command line command new asks told =
-      let here : Asks old.schema old.site line command =
-      subst (λ (n : SiteNo). Asks old.schema n line command) is (subst (λ (s : SchemaValue). Asks s number line command) own asks) in
-      record { text = told.text; answer = inl (command, here, told.answered); added = told.added }
+    module _ (tells : TellsKey old.bytes last key None) (new : SiteValue) (later : LastNotes) where
+      committed : (text : List ℕ) → CommitsWith old last txn key new later text → CommittedWithKey was line (served_of new later count) text
+      committed text commits = record { txn = txn; key = key; asks = commit_here; tells = tells; commits = commits }
 
-  -- a line that asks nothing
-  pub told_bad : (line : List ℕ) (why : BadLine) → IsBad schema number line why → grown ≡ out ++ bad_text count why
-      → Tells line old count old out grown
-  told_bad line why bad added =
-      let here : IsBad old.schema old.site line why =
-      subst (λ (n : SiteNo). IsBad old.schema n line why) is (subst (λ (s : SchemaValue). IsBad s number line why) own bad) in
-      record { text = bad_text count why; answer = inr (inr (record { why = why; bad = here; same = refl; told = refl })); added = added }
+      pub told_committed : (out grown : List ℕ) → (text : List ℕ) × CommitsWith old last txn key new later text × (grown ≡ out ++ text)
+          → Tells line was (served_of new later count) out grown
+      told_committed out grown told = record { text = told.0; answer = inr (inl (committed told.0 told.1)); added = told.2 }
 
-  -- of one that is too long the answer is that of another
-  pub told_long : (line whole : List ℕ) (why : BadLine) → max_line < length line → max_line < length whole
-      → IsBad schema number line why → grown ≡ out ++ bad_text count why → Tells whole old count old out grown
-  told_long line whole TooLong long more bad added =
-      record { text = bad_text count TooLong; answer = inr (inr (record { why = TooLong; bad = more; same = refl; told = refl })); added = added }
-  told_long line whole OtherSite long more bad added = absurd (omega (arith, long, bad.0))
-  told_long line whole UnknownWord long more bad added = absurd (omega (arith, long, bad.0.short))
-  told_long line whole NoField long more bad added = absurd (omega (arith, long, bad.0.short))
-  told_long line whole NoCommand long more bad added = absurd (omega (arith, long, bad.0.short))
+      pub left_committed : ((new ≡ old) × (later ≡ last)) ⊎ ((text : List ℕ) × CommitsWith old last txn key new later text)
+          → LeavesAnswer was line (served_of new later count)
+      left_committed (inl same) = inl (record { site = same.0; last = same.1 })
+      left_committed (inr did) = inr (did.0, inr (inl (committed did.0 did.1)))
 
-  -- a question for a commit
-  pub told_commit : (line : List ℕ) (txn : TxnId) → IdFits txn × (line ≡ kept_text txn)
-      → (kept : Bool) × TellsCommit old.bytes txn kept × (grown ≡ out ++ (line ++ kept_words kept)) → Tells line old count old out grown
-  told_commit line txn asks told = record {
-    text = line ++ kept_words told.0;
-    answer = inr (inl (record { txn = txn; fits = asks.0; asked = asks.1; kept = told.0; tells = told.1; same = refl; told = refl }));
-    added = told.2;
-  }
+-- ---- what stands in front of a key
+
+module _ (line front key : List ℕ) (is : line ≡ front ++ (codes " key " ++ key)) where
+  pub key_length : length line ≡ length front + (5 + length key)
+  key_length = ap length is ∙ length-append front (codes " key " ++ key) ∙ ap (λ (n : ℕ). length front + n) (length-append (codes " key ") key)
+
+  pub in_front : (n : ℕ) → n ≡ length line - length key - 5 → take n line ≡ front
+  in_front n size =
+      let at : n ≡ length front = omega (arith, size, key_length) in
+      ap (take n) is ∙ take_at front (codes " key " ++ key) n (sym at)

@@ -1,11 +1,13 @@
 -- What a site answers to lines (this project).
-use Rattle.std.specs.Prelude.{◌≡◌, ◌≢◌, ◌⊎◌, ◌<◌, ◌≤◌, ℕ, Bool, List, [], ◌∷◌, ◌++◌, length, codes}
+use Rattle.std.specs.Prelude.{◌≡◌, ◌≢◌, ◌⊎◌, ◌<◌, ◌≤◌, ℕ, Bool, true, false, if◌then◌else◌, List, [], ◌∷◌, ◌++◌, length, Option, None, Some, codes}
 use Rattle.std.specs.Fmt.{decimal}
 use Rattle.field_bounds.specs.Schema.{SchemaValue}
 use Rattle.field_bounds.specs.declared.id.SiteNo.{SiteNo}
 use Rattle.field_bounds.specs.declared.id.TxnId.{TxnId}
 use Rattle.field_bounds.specs.declared.entry.Command.{Command}
+use Rattle.field_bounds.specs.declared.entry.Command.TheVariants.{Commit}
 use Rattle.field_bounds.specs.declared.entry.Reply.{Reply}
+use Rattle.field_bounds.specs.declared.entry.Reply.TheVariants.{Committed}
 use Rattle.site_step.specs.Site.{SiteValue, Applies, entry_of}
 use Rattle.entry_text.specs.Spelling.{command_text, entry_text}
 use Rattle.entry_text.specs.Ranges.{SiteFits, IdFits, CommandFits}
@@ -13,14 +15,25 @@ use Rattle.entry_text.specs.Lines.{max_line}
 use Rattle.script_input.specs.Streams.{one_more}
 use Rattle.line_words.specs.Words.{words}
 use Rattle.site_service.specs.LineFaults.{fault_in}
-use Rattle.site_service.specs.Kept.{TellsCommit, kept_text, kept_words}
+use Rattle.caller_keys.specs.Keys.{IsKey}
+use Rattle.site_service.specs.Kept.{LastNotes, last_of, noted, TellsCommit, TellsKey, kept_text, kept_words, kept_key_text, kept_key_words}
 use Rattle.site_service.specs.declared.bad_line.BadLine.{BadLine}
 use Rattle.site_service.specs.declared.bad_line.BadLine.TheVariants.{TooLong, OtherSite, UnknownWord, NoField, NoCommand}
 
--- What the answer to a line depends on: the site, and how many lines were answered before, as a u64 that begins again at 0.
+-- What the answer to a line depends on: the site; the keys of callers that were noted, each with its last transaction; and how many
+-- lines were answered before, as a u64 that begins again at 0.
 pub record Served : Type 0 where
   pub site : SiteValue
+  pub last : LastNotes
   pub lines : ℕ
+
+abbrev pub served_of : SiteValue → LastNotes → ℕ → Served
+served_of site last lines = record { site = site; last = last; lines = lines }
+
+-- Neither the site changes nor a key is noted.
+pub record IsStill (old new : Served) : Type 0 where
+  pub site : new.site ≡ old.site
+  pub last : new.last ≡ old.last
 
 -- ---- a line that asks something
 
@@ -35,31 +48,110 @@ pub record Answered (old : SiteValue) (command : Command) (new : SiteValue) (tex
   pub applies : Applies old command reply new
   pub told : text ≡ entry_text old.schema (entry_of old command reply) ++ 10 ∷ []
 
--- The line asks whether a commit is in the log. The site stays as it is, and the text tells it behind the line.
-pub record ToldKept (old : SiteValue) (line : List ℕ) (new : SiteValue) (text : List ℕ) : Type 0 where
+-- What is left where memory is refused: the site as it was, or one that carried the command out.
+abbrev pub LeavesCommand : SiteValue → Command → SiteValue → Type 0
+LeavesCommand old command new = (new ≡ old) ⊎ ((text : List ℕ) × Answered old command new text)
+
+-- The line asks a command of this site. It is carried out, and the text is that of its entry; no key is noted.
+pub record CarriedOut (old : Served) (line : List ℕ) (new : Served) (text : List ℕ) : Type 0 where
+  pub command : Command
+  pub asks : Asks old.site.schema old.site.site line command
+  pub answered : Answered old.site command new.site text
+  pub last : new.last ≡ old.last
+
+-- The line asks whether a commit is in the log. All stays as it is, and the text tells it behind the line.
+pub record ToldKept (old : Served) (line : List ℕ) (new : Served) (text : List ℕ) : Type 0 where
   pub txn : TxnId
   pub fits : IdFits txn
   pub asked : line ≡ kept_text txn
   pub kept : Bool
-  pub tells : TellsCommit old.bytes txn kept
-  pub same : new ≡ old
+  pub tells : TellsCommit old.site.bytes txn kept
+  pub still : IsStill old new
   pub told : text ≡ line ++ kept_words kept
+
+-- ---- a line with a key
+
+-- The text of a commit with a key: of the command, the word `key`, and the key.
+abbrev pub commit_text : SchemaValue → SiteNo → TxnId → List ℕ → List ℕ
+commit_text schema site txn key = command_text schema site (Commit txn) ++ (codes " key " ++ key)
+
+-- The line is the text of a commit with a key at this site.
+pub record AsksCommit (schema : SchemaValue) (number : SiteNo) (line : List ℕ) (txn : TxnId) (key : List ℕ) : Type 0 where
+  pub fits : IdFits txn
+  pub is_key : IsKey key
+  pub text : line ≡ commit_text schema number txn key
+
+-- The reply tells that a transaction was committed.
+abbrev pub is_committed : Reply → Bool
+is_committed Committed = true
+is_committed reply = false
+
+-- Of each key the last transaction, behind a commit with a key that was answered so: where it was committed, the key was noted.
+abbrev pub NotesCommit : LastNotes → LastNotes → List ℕ → TxnId → Reply → Type 0
+NotesCommit old new key txn reply =
+    (other : List ℕ) → last_of new other ≡ (if is_committed reply then noted old key txn other else last_of old other)
+
+-- A commit with a key was carried out, and the text is that of its entry. Its key is noted for its transaction where it was committed.
+pub record CommitsWith (old : SiteValue) (last : LastNotes) (txn : TxnId) (key : List ℕ) (new : SiteValue) (later : LastNotes)
+    (text : List ℕ) : Type 0 where
+  pub answered : Answered old (Commit txn) new text
+  pub notes : NotesCommit last later key txn answered.reply
+
+-- The line asks a commit with a key, with which one is kept already. All stays as it is, and the text tells that one: as the answer to
+-- the question for the key does.
+pub record RefusedKey (old : Served) (line : List ℕ) (new : Served) (text : List ℕ) : Type 0 where
+  pub txn : TxnId
+  pub key : List ℕ
+  pub asks : AsksCommit old.site.schema old.site.site line txn key
+  pub other : TxnId
+  pub tells : TellsKey old.site.bytes old.last key (Some other)
+  pub still : IsStill old new
+  pub told : text ≡ kept_key_text key ++ kept_key_words (Some other)
+
+-- The line asks a commit with a key, with which none is kept. It is carried out, and the text is that of its entry, without the key,
+-- which is noted for its transaction where it was committed.
+pub record CommittedWithKey (old : Served) (line : List ℕ) (new : Served) (text : List ℕ) : Type 0 where
+  pub txn : TxnId
+  pub key : List ℕ
+  pub asks : AsksCommit old.site.schema old.site.site line txn key
+  pub tells : TellsKey old.site.bytes old.last key None
+  pub commits : CommitsWith old.site old.last txn key new.site new.last text
+
+-- The line asks which commit is kept with a key. All stays as it is, and the text tells it behind the line.
+pub record ToldKey (old : Served) (line : List ℕ) (new : Served) (text : List ℕ) : Type 0 where
+  pub key : List ℕ
+  pub is_key : IsKey key
+  pub asked : line ≡ kept_key_text key
+  pub kept : Option TxnId
+  pub tells : TellsKey old.site.bytes old.last key kept
+  pub still : IsStill old new
+  pub told : text ≡ line ++ kept_key_words kept
 
 -- ---- a line that asks nothing
 
--- The line has no more than 256 bytes, and is the text neither of a command of a site of the schema nor of a question for a commit.
+-- The line has no more than 256 bytes, and is the text neither of a command of a site of the schema, with or without a key, nor of a
+-- question for a commit or for a key.
 pub record AsksNothing (schema : SchemaValue) (line : List ℕ) : Type 0 where
   pub short : length line ≤ max_line
   pub command : (site : SiteNo) (command : Command) → site.0 < schema.sites → SiteFits site → CommandFits command
       → line ≢ command_text schema site command
+  pub with_key : (site : SiteNo) (txn : TxnId) (key : List ℕ) → site.0 < schema.sites → SiteFits site
+      → AsksCommit schema site line txn key → ⊥
   pub question : (txn : TxnId) → IdFits txn → line ≢ kept_text txn
+  pub key_question : (key : List ℕ) → IsKey key → line ≢ kept_key_text key
+
+-- The line is the text of a command of this site, with or without a key.
+abbrev pub IsOrder : SchemaValue → SiteNo → List ℕ → Type 0
+IsOrder schema site line =
+    ((command : Command) × (line ≡ command_text schema site command))
+    ⊎ ((txn : TxnId) × (key : List ℕ) × AsksCommit schema site line txn key)
 
 -- Why a line asks nothing of a site: it has more than 256 bytes; or it has no more, and is the text of a command of another site of
--- the schema, or neither of a command of such a site nor of a question for a commit, by what its words tell.
+-- the schema, or neither of a command of such a site nor of a question, by what its words tell.
 abbrev pub IsBad : SchemaValue → SiteNo → List ℕ → BadLine → Type 0
 IsBad schema number line TooLong = max_line < length line
 IsBad schema number line OtherSite = (length line ≤ max_line)
-    × ((site : SiteNo) × (command : Command) × (site.0 < schema.sites) × (site ≢ number) × (line ≡ command_text schema site command))
+    × ((site : SiteNo) × (site.0 < schema.sites) × (site ≢ number) × IsOrder schema site line)
 IsBad schema number line UnknownWord = AsksNothing schema line × (fault_in schema (words line) ≡ UnknownWord)
 IsBad schema number line NoField = AsksNothing schema line × (fault_in schema (words line) ≡ NoField)
 IsBad schema number line NoCommand = AsksNothing schema line × (fault_in schema (words line) ≡ NoCommand)
@@ -76,26 +168,33 @@ bad_words NoCommand = codes "no command"
 abbrev pub bad_text : ℕ → BadLine → List ℕ
 bad_text number why = codes "bad line " ++ (decimal number ++ (32 ∷ (bad_words why ++ 10 ∷ [])))
 
--- The site stays as it is, and the text tells the line's number, and why.
-pub record Passed (old : SiteValue) (line : List ℕ) (number : ℕ) (new : SiteValue) (text : List ℕ) : Type 0 where
+-- All stays as it is, and the text tells the line's number, and why it asks nothing.
+pub record Passed (old : Served) (line : List ℕ) (new : Served) (text : List ℕ) : Type 0 where
   pub why : BadLine
-  pub bad : IsBad old.schema old.site line why
-  pub same : new ≡ old
-  pub told : text ≡ bad_text number why
+  pub bad : IsBad old.site.schema old.site.site line why
+  pub still : IsStill old new
+  pub told : text ≡ bad_text new.lines why
 
 -- ---- the answers
 
--- The answer to the line of this number: the entry of the command that it asks, carried out; or whether a commit is in the log; or that
--- it asks nothing.
-abbrev pub IsAnswer : SiteValue → List ℕ → ℕ → SiteValue → List ℕ → Type 0
-IsAnswer old line number new text =
-    ((command : Command) × Asks old.schema old.site line command × Answered old command new text)
-    ⊎ (ToldKept old line new text ⊎ Passed old line number new text)
+-- The answer to a line, whose number the new count tells: the entry of the command that it asks, carried out; the same of a commit
+-- with a key, or which commit is kept with the key already; whether a commit is in the log; which one is kept with a key; or that the
+-- line asks nothing.
+abbrev pub IsAnswer : Served → List ℕ → Served → List ℕ → Type 0
+IsAnswer old line new text =
+    CarriedOut old line new text
+    ⊎ (CommittedWithKey old line new text
+    ⊎ (RefusedKey old line new text ⊎ (ToldKept old line new text ⊎ (ToldKey old line new text ⊎ Passed old line new text))))
 
 -- The answer to the next line, which is counted.
 pub record AnswersLine (old : Served) (line : List ℕ) (new : Served) (text : List ℕ) : Type 0 where
   pub counted : new.lines ≡ one_more old.lines
-  pub answer : IsAnswer old.site line new.lines new.site text
+  pub answer : IsAnswer old line new text
+
+-- What is left where memory is refused: all as it was, or what the answer to the line leaves, of which the text alone is wanting. So
+-- no commit with a key stands without its note.
+abbrev pub LeavesAnswer : Served → List ℕ → Served → Type 0
+LeavesAnswer old line new = IsStill old new ⊎ ((text : List ℕ) × IsAnswer old line new text)
 
 -- The answers to lines, one after the other.
 abbrev pub AnswersLines : Served → List (List ℕ) → Served → List ℕ → Type 0

@@ -1,5 +1,6 @@
 -- A service as its callers see it, and what its calls do (this project).
-use Rattle.std.specs.Prelude.{◌≡◌, ◌≤◌, ℕ, Bool, true, false, List, [], ◌++◌, length, take, Option, Some}
+use Rattle.std.specs.Prelude.{◌≡◌, ◌≤◌, ℕ, Bool, true, false, List, [], ◌++◌, length, take, drop, Option, Some}
+use Rattle.std.specs.List.{AllByRecursion, flat_map}
 use Rattle.std.specs.Io.KnownBytes.{Appends}
 use Rattle.field_bounds.specs.Schema.{SchemaValue}
 use Rattle.field_bounds.specs.declared.entry.Command.{Command}
@@ -8,8 +9,10 @@ use Rattle.kept_records.specs.declared.record.Record.{Record}
 use Rattle.site_step.specs.Site.{SiteValue, Holds}
 use Rattle.script_input.specs.Streams.{AppendsPrefix}
 use Rattle.file_medium.specs.Copies.{IsCopyOf}
+use Rattle.caller_keys.specs.Keys.{KeyNote, IsNote, note_line, IsKeyed, AreLines, last_txn}
 use Rattle.site_service.specs.declared.fault.ServeFault.{ServeFault}
 use Rattle.site_service.specs.declared.fault.ServeFault.TheVariants as faults
+use Rattle.site_service.specs.Kept.{LastNotes, last_of}
 use Rattle.site_service.specs.Answers.{Served, Answered, IsAnswer, AnswersLine, AnswersLines}
 
 -- What the answers depend on; the text of the answers that wait to be let out; the bytes that the log's file holds, those of it
@@ -25,10 +28,10 @@ pub record ServiceValue : Type 0 where
   pub lost : Bool
 
 -- A service's value, from its parts.
-abbrev pub value_of : SiteValue → ℕ → List ℕ → Option (List ℕ) → Option (List ℕ) → Option ℕ → ℕ → Bool → ServiceValue
-value_of site lines waiting log safe least settled lost =
+abbrev pub value_of : SiteValue → LastNotes → ℕ → List ℕ → Option (List ℕ) → Option (List ℕ) → Option ℕ → ℕ → Bool → ServiceValue
+value_of site last lines waiting log safe least settled lost =
     record {
-      served = record { site = site; lines = lines };
+      served = record { site = site; last = last; lines = lines };
       waiting = waiting;
       log = log;
       safe = safe;
@@ -52,20 +55,49 @@ pub record Grows (old new : SiteValue) : Type 0 where
   pub bytes : new.bytes ≡ old.bytes ++ added
   pub schema : new.schema ≡ old.schema
 
--- What is safe of the log is the first so many of the medium's bytes, which are settled; and so is all that the log holds, unless
--- a call of its file has failed. The schema is the site's.
+-- The text holds lines of notes, which tell of each key what is its last transaction, and beside them exactly these records.
+pub record IsTextOf (text : List ℕ) (last : LastNotes) (records : List ℕ) : Type 0 where
+  pub notes : List KeyNote
+  pub keyed : IsKeyed text notes records
+  pub tells : (key : List ℕ) → last_of last key ≡ last_txn key notes
+
+-- Such a text is all that a file holds, as far as it tells.
+pub record HoldsText (known : Option (List ℕ)) (last : LastNotes) (records : List ℕ) : Type 0 where
+  pub text : List ℕ
+  pub copy : IsCopyOf known text
+  pub is : IsTextOf text last records
+
+-- What is safe of the log is a text of whole lines, whose records are the first so many of the medium's bytes, which are settled; and so
+-- is all that the log holds, unless a call of its file has failed. Its notes and some more tell of each key its last transaction. The
+-- schema is the site's.
 pub record IsLinked (schema : SchemaValue) (v : ServiceValue) : Type 0 where
   pub own : schema ≡ v.served.site.schema
   pub whole : IsWhole v.served.site
   pub within : v.settled ≤ length v.served.site.bytes
-  pub safe : IsCopyOf v.safe (take v.settled v.served.site.bytes)
-  pub log : v.lost ≡ false → IsCopyOf v.log (take v.settled v.served.site.bytes)
+  pub text : List ℕ
+  pub lines : AreLines text
+  pub notes : List KeyNote
+  pub keyed : IsKeyed text notes (take v.settled v.served.site.bytes)
+  pub more : List KeyNote
+  pub tells : (key : List ℕ) → last_of v.served.last key ≡ last_txn key (notes ++ more)
+  pub safe : IsCopyOf v.safe text
+  pub log : v.lost ≡ false → IsCopyOf v.log text
 
--- All that the medium holds is in the log, and safe there: so the record of each answer so far.
+-- All that the medium holds is in the log, and safe there, and so is the note of each key: so the record of each answer so far, and the
+-- key of each commit.
 pub record IsSettled (v : ServiceValue) : Type 0 where
   pub sound : v.lost ≡ false
-  pub log : IsCopyOf v.log v.served.site.bytes
-  pub safe : IsCopyOf v.safe v.served.site.bytes
+  pub text : List ℕ
+  pub is : IsTextOf text v.served.last v.served.site.bytes
+  pub log : IsCopyOf v.log text
+  pub safe : IsCopyOf v.safe text
+
+-- What a log gets behind a text: lines of notes, and behind them all that the medium holds behind its first so many bytes. So no front of
+-- it has a record without the notes that come with it.
+pub record AddsNotesFirst (known : Option (List ℕ)) (text : List ℕ) (settled : ℕ) (bytes : List ℕ) : Type 0 where
+  pub notes : List KeyNote
+  pub each : AllByRecursion IsNote notes
+  pub copy : IsCopyOf known ((text ++ flat_map note_line notes) ++ drop settled bytes)
 
 -- ---- the calls
 
@@ -77,10 +109,10 @@ pub record KeepsLog (old new : ServiceValue) : Type 0 where
   pub settled : new.settled ≡ old.settled
   pub lost : new.lost ≡ old.lost
 
--- The output has grown by the answer to the line of this number.
-pub record Tells (line : List ℕ) (old : SiteValue) (number : ℕ) (new : SiteValue) (out grown : List ℕ) : Type 0 where
+-- The output has grown by the answer to the line, whose number the new count tells.
+pub record Tells (line : List ℕ) (old new : Served) (out grown : List ℕ) : Type 0 where
   pub text : List ℕ
-  pub answer : IsAnswer old line number new text
+  pub answer : IsAnswer old line new text
   pub added : grown ≡ out ++ text
 
 -- The output has grown by the entry of a command that was carried out.
@@ -92,6 +124,7 @@ pub record TellsEntry (command : Command) (old new : SiteValue) (out grown : Lis
 -- A command is carried out, and its answer waits behind those that waited.
 pub record HasApplied (command : Command) (old new : ServiceValue) : Type 0 where
   pub tells : TellsEntry command old.served.site new.served.site old.waiting new.waiting
+  pub last : new.served.last ≡ old.served.last
   pub lines : new.served.lines ≡ old.served.lines
 
 -- A line is answered, and its answer waits behind those that waited.

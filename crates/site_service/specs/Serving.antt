@@ -1,14 +1,13 @@
 -- What a served site reads and lets out (this project).
-use Rattle.std.specs.Prelude.{◌≡◌, ◌⊎◌, ◌<◌, ◌≤◌, ◌+◌, ◌-◌, ◌^◌, ℕ, Bool, true, false, List, [], ◌++◌, length, Option, Result, Ok, Err}
+use Rattle.std.specs.Prelude.{◌≡◌, ◌⊎◌, ◌<◌, ◌≤◌, ◌-◌, ◌^◌, ℕ, Bool, true, false, List, [], ◌++◌, length, Option, Result, Ok, Err}
 use Rattle.std.specs.Io.KnownBytes.{Appends, Consumes, IsAtEnd}
 use Rattle.entry_text.specs.Lines.{max_line}
 use Rattle.script_input.specs.Lines.{whole_lines, last_part}
 use Rattle.script_input.specs.Streams.{AppendsPrefix, one_more}
-use Rattle.file_medium.specs.Copies.{IsCopyOf}
 use Rattle.site_service.specs.declared.fault.ServeFault.{ServeFault}
 use Rattle.site_service.specs.declared.fault.ServeFault.TheVariants as faults
 use Rattle.site_service.specs.Answers.{Served, AnswersLines}
-use Rattle.site_service.specs.Service.{ServiceValue, IsSettled}
+use Rattle.site_service.specs.Service.{ServiceValue, HoldsText, IsSettled}
 use Rattle.site_service.specs.Traces.{TraceValue, HasTold, HasKept}
 
 -- What is kept of a part of a line: all of it, or, of more than 256 bytes, more than 256.
@@ -58,8 +57,9 @@ IsLongAt faults.NoMemory read = Unit {0}
 
 -- A fault ends the serving. What was read is a front, whose batches were let out, and the rest: what was written is exactly what
 -- waited at first and the text of the answers to the whole lines of the front, at a write fault a front of that. The record of each
--- of these answers is safe: what is safe of the log are exactly the bytes of the site that answered the last of them. The text of
--- these answers is safe in the trace, maybe with more behind it: so what is safe of the log is never ahead of the trace.
+-- of these answers is safe, and the key of each commit: what is safe of the log is a text of exactly the bytes of the site that answered
+-- the last of them, with notes that tell the keys that it knew. The text of these answers is safe in the trace, maybe with more behind
+-- it: so what is safe of the log is never ahead of the trace.
 pub record Stops (from to before after : Option (List ℕ)) (trace traced : TraceValue) (start now : ServiceValue) (fault : ServeFault)
     : Type 0 where
   pub front : List ℕ
@@ -69,7 +69,7 @@ pub record Stops (from to before after : Option (List ℕ)) (trace traced : Trac
   pub text : List ℕ
   pub answers : AnswersLines start.served (whole_lines front) last text
   pub out : IsOutAt fault before after (start.waiting ++ text)
-  pub safe : IsCopyOf now.safe last.site.bytes
+  pub safe : HoldsText now.safe last.last last.site.bytes
   pub told : HasKept trace traced text
   pub long : IsLongAt fault front
 

@@ -1,22 +1,31 @@
 //! The answers of a site, as text.
 
-ghost use Rattle.std.specs.Prelude.{◌≡◌, ◌<◌, ◌++◌, ◌∷◌, [], ℕ, Bool, List, length, take, OnOk, OnErr};
+ghost use Rattle.std.specs.Prelude.{◌≡◌, ◌⊎◌, ◌<◌, ◌++◌, ◌∷◌, [], ℕ, Bool, List, Option, length, take, codes, Some, OnOk, OnErr};
 ghost use Rattle.entry_text.specs.Spelling.{command_text, entry_text};
 ghost use Rattle.entry_text.specs.Lines.{max_line};
 ghost use Rattle.kept_records.specs.Keeping.{IsKept};
-ghost use Rattle.site_service.specs.Index.{IsIndexOf};
-ghost use Rattle.site_service.specs.Kept.{TellsCommit, kept_words};
+ghost use Rattle.field_bounds.specs.declared.id.TxnId.{TxnId as Txn};
+ghost use Rattle.caller_keys.specs.Keys.{KeyNote};
+ghost use Rattle.site_service.specs.Answers.{served_of, AsksCommit, CommitsWith, LeavesCommand, LeavesAnswer};
+ghost use Rattle.site_service.specs.Index.{IsIndexOf, IsBehind};
+ghost use Rattle.site_service.specs.Kept.{TellsCommit, TellsKey, kept_words, kept_key_text, kept_key_words};
 ghost use Rattle.site_service.specs.Service.{IsWhole, Grows, Tells, TellsEntry};
 
 use crate::asking::{Request, asked};
 use crate::bad_line::add_bad;
 use crate::kept::KeptCommits;
+use crate::keyed::{add_kept_key, commit_and_note, kept_with};
+use crate::keys::NotedKeys;
+use caller_keys::Key;
 use entry_text::{append_entry, append_reply};
 use field_bounds::{Command, Entry, Reply, Schema, SiteNo, TxnId};
 use history::GhostHistory;
 use kept_records::MemoryMedium;
 use site_step::Site;
 use std::alloc::{AllocError, Global};
+
+// How many bytes stand between a commit and its key, in a line: ` key `.
+const KEY_WORD: usize = 5;
 
 // Adds the text of an entry and an LF, or changes nothing where memory is refused.
 fn add_entry(out: &mut Vec<u8>, schema: &Schema, entry: Entry) -> Result<(), AllocError>
@@ -118,6 +127,7 @@ fn carry_out_spelled(
     requires spelled { line.now ≡ command_text schema.now site.old.site command }
     ensures ok { OnOk result (TellsEntry command site.old site.new out.old.items out.new.items) }
     ensures err { OnErr result (out.new.items ≡ out.old.items) }
+    ensures left { OnErr result (LeavesCommand site.old command site.new) }
     ensures grows { IsWhole site.old → Grows site.old site.new }
 {
     let number = site.site();
@@ -175,14 +185,118 @@ fn tell_commit(
     Ok(())
 }
 
+// Adds a question for a key with its answer, or nothing where memory is refused.
+fn tell_key(
+    alloc: Global,
+    kept: &mut KeptCommits,
+    keys: &NotedKeys,
+    log: &[u8],
+    out: &mut Vec<u8>,
+    key: Key<'_>,
+) -> Result<(), AllocError>
+    requires index { IsIndexOf kept.old log.now }
+    requires log { IsKept log.now }
+    ensures ok { OnOk result ((txn : Option Txn)
+        × TellsKey log.now keys.now.last key.entry.bytes.now txn
+        × (out.new.items
+        ≡ out.old.items ++ (kept_key_text key.entry.bytes.now ++ kept_key_words txn))) }
+    ensures err { OnErr result (out.new.items ≡ out.old.items) }
+    ensures index { IsIndexOf kept.new log.now }
+{
+    let txn = kept_with(alloc, kept, keys, log, key)?;
+    add_kept_key(out, key, txn)?;
+    Ok(())
+}
+
+// What stands in front of the key of a line, and of the word in front of that.
+fn without_key<'a>(line: &'a [u8], key: Key<'_>) -> &'a [u8]
+    requires keyed { (front : List ℕ) × (line.now ≡ front ++ (codes " key " ++ key.bytes.now)) }
+    ensures front { (front : List ℕ) → line.now ≡ front ++ (codes " key " ++ key.entry.bytes.now)
+        → result.now ≡ front }
+{
+    &line[..line.len() - key.bytes.len() - KEY_WORD]
+}
+
+// Carries out the commit that a line spells in front of a key, notes the key where it is committed,
+// and adds its entry as a line. Where memory is refused nothing is added; the commit may have been
+// carried out, and the key noted with it.
+fn commit_spelled(
+    alloc: Global,
+    site: &mut Site<MemoryMedium, GhostHistory<Entry>>,
+    schema: &Schema,
+    keys: &mut NotedKeys,
+    out: &mut Vec<u8>,
+    line: &[u8],
+    txn: TxnId,
+    key: Key<'_>,
+) -> Result<(), AllocError>
+    requires schema { schema.now ≡ site.old.schema }
+    requires asks { AsksCommit schema.now site.old.site line.now txn key.bytes.now }
+    ensures ok { OnOk result ((text : List ℕ)
+        × CommitsWith site.old keys.old.last txn key.entry.bytes.now site.new keys.new.last text
+        × (out.new.items ≡ out.old.items ++ text)) }
+    ensures err { OnErr result (out.new.items ≡ out.old.items) }
+    ensures left { OnErr result (((site.new ≡ site.old)
+        × (keys.new.last ≡ keys.old.last)) ⊎ ((text : List ℕ)
+        × CommitsWith site.old keys.old.last txn key.entry.bytes.now site.new keys.new.last
+        text)) }
+    ensures grows { IsWhole site.old → Grows site.old site.new }
+    ensures behind { (notes : List KeyNote)
+        → IsBehind notes keys.old.lines keys.old.last
+        → IsBehind notes keys.new.lines keys.new.last }
+{
+    let number = site.site();
+    let spelled = without_key(line, key);
+    let reply = commit_and_note(alloc, site, keys, key, txn)?;
+    add_spelled(out, schema, spelled, number, Command::Commit { txn }, reply)
+}
+
+// Answers a line that asks a commit with a key: tells which one is kept with it, or carries it out.
+fn answer_commit(
+    alloc: Global,
+    site: &mut Site<MemoryMedium, GhostHistory<Entry>>,
+    schema: &Schema,
+    kept: &mut KeptCommits,
+    keys: &mut NotedKeys,
+    out: &mut Vec<u8>,
+    line: &[u8],
+    txn: TxnId,
+    key: Key<'_>,
+) -> Result<(), AllocError>
+    requires schema { schema.now ≡ site.old.schema }
+    requires asks { AsksCommit schema.now site.old.site line.now txn key.bytes.now }
+    requires whole { IsWhole site.old }
+    requires index { IsIndexOf kept.old site.old.bytes }
+    ensures ok { (count number : ℕ) → OnOk result (Tells line.now
+        (served_of site.old keys.old.last count)
+        (served_of site.new keys.new.last number) out.old.items out.new.items) }
+    ensures err { OnErr result (out.new.items ≡ out.old.items) }
+    ensures left { (count number : ℕ) → OnErr result (LeavesAnswer
+        (served_of site.old keys.old.last count) line.now
+        (served_of site.new keys.new.last number)) }
+    ensures grows { Grows site.old site.new }
+    ensures index { IsIndexOf kept.new site.new.bytes }
+    ensures behind { (notes : List KeyNote)
+        → IsBehind notes keys.old.lines keys.old.last
+        → IsBehind notes keys.new.lines keys.new.last }
+{
+    let found = kept_with(alloc, kept, keys, site.medium().bytes(), key)?;
+    match found {
+        Some(other) => add_kept_key(out, key, Some(other)),
+        None => commit_spelled(alloc, site, schema, keys, out, line, txn, key),
+    }
+}
+
 /// Answers the line of this number: adds the entry of the command that it asks, or whether a commit
-/// is in the log, or that it asks nothing. Where memory is refused nothing is added; a command may
-/// have been carried out. The answer to a line that is too long is that to each such line.
+/// is in the log, or which one with a key, or that it asks nothing. Where memory is refused nothing
+/// is added; a command may have been carried out. The answer to a line that is too long is that to
+/// each such line.
 pub(crate) fn answer_line(
     alloc: Global,
     site: &mut Site<MemoryMedium, GhostHistory<Entry>>,
     schema: &Schema,
     kept: &mut KeptCommits,
+    keys: &mut NotedKeys,
     out: &mut Vec<u8>,
     number: u64,
     line: &[u8],
@@ -190,19 +304,34 @@ pub(crate) fn answer_line(
     requires schema { schema.now ≡ site.old.schema }
     requires whole { IsWhole site.old }
     requires index { IsIndexOf kept.old site.old.bytes }
-    ensures ok { OnOk result (Tells line.now site.old number site.new out.old.items
-        out.new.items) }
-    ensures long { (whole : List ℕ) → max_line < length line.now → max_line < length whole
-        → OnOk result (Tells whole site.old number site.new out.old.items out.new.items) }
+    ensures ok { (count : ℕ) → OnOk result (Tells line.now
+        (served_of site.old keys.old.last count)
+        (served_of site.new keys.new.last number) out.old.items out.new.items) }
+    ensures long { (count : ℕ) (whole : List ℕ) → max_line < length line.now
+        → max_line < length whole → OnOk result (Tells whole
+        (served_of site.old keys.old.last count)
+        (served_of site.new keys.new.last number) out.old.items out.new.items) }
     ensures err { OnErr result (out.new.items ≡ out.old.items) }
+    ensures left { (count : ℕ) → OnErr result (LeavesAnswer
+        (served_of site.old keys.old.last count) line.now
+        (served_of site.new keys.new.last number)) }
     ensures grows { Grows site.old site.new }
     ensures index { IsIndexOf kept.new site.new.bytes }
+    ensures behind { (notes : List KeyNote)
+        → IsBehind notes keys.old.lines keys.old.last
+        → IsBehind notes keys.new.lines keys.new.last }
 {
     match asked(schema, site.site(), line) {
         Ok(Request::Do(command)) => carry_out_spelled(alloc, site, schema, out, line, command),
+        Ok(Request::Commit(txn, key)) => {
+            answer_commit(alloc, site, schema, kept, keys, out, line, txn, key)
+        }
         Ok(Request::Kept(txn)) => {
             tell_commit(alloc, kept, site.medium().bytes(), out, line, txn)
-        },
+        }
+        Ok(Request::KeptKey(key)) => {
+            tell_key(alloc, kept, keys, site.medium().bytes(), out, key)
+        }
         Err(why) => add_bad(out, number, why),
     }
 }

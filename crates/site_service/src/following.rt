@@ -9,8 +9,27 @@ use crate::fault::ServeFault;
 use file_medium::{FileFailed, LogFile, write_front};
 use script_input::Sink;
 
-/// Writes a piece behind the bytes of a file, and syncs it once: at Ok it holds the piece too, and
-/// all that it holds is safe. At a fault what was safe still is, and of the rest nothing is known.
+/// Writes two pieces behind the bytes of a file, of which one may be empty, and syncs it once: at Ok
+/// it holds them too, and all that it holds is safe. At a fault what was safe still is, and of the
+/// rest nothing is known.
+pub(crate) fn add_both<F: LogFile>(
+    file: &mut F,
+    first: &[u8],
+    second: &[u8],
+) -> Result<(), FileFailed>
+    ensures added { OnOk result (F.bytes file.new
+        ≡ append_known (append_known (F.bytes file.old) first.now) second.now) }
+    ensures safe { OnOk result (F.safe file.new ≡ F.bytes file.new) }
+    ensures kept { OnErr result (F.safe file.new ≡ F.safe file.old) }
+    ensures least { F.least file.new ≡ F.least file.old }
+{
+    if write_front(file, first) < first.len() {
+        return Err(FileFailed);
+    }
+    add_safely(file, second)
+}
+
+/// The same with one piece.
 pub(crate) fn add_safely<F: LogFile>(file: &mut F, piece: &[u8]) -> Result<(), FileFailed>
     ensures added { OnOk result (F.bytes file.new ≡ append_known (F.bytes file.old) piece.now) }
     ensures safe { OnOk result (F.safe file.new ≡ F.bytes file.new) }

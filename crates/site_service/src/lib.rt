@@ -8,6 +8,8 @@ mod bad_line;
 mod fault;
 mod following;
 mod kept;
+mod keyed;
+mod keys;
 mod laws;
 mod line_fault;
 mod no_trace;
@@ -17,6 +19,7 @@ mod serving;
 mod txn_set;
 
 pub use bad_line::BadLine;
+pub use caller_keys::{Key, read_key};
 pub use fault::ServeFault;
 pub use laws::stop_leaves_a_front;
 pub use no_trace::NoTrace;

@@ -1,21 +1,23 @@
 //! What a service finds in its log.
 
-ghost use Rattle.std.specs.Prelude.{◌≡◌, ◌<◌, ◌≤◌, [], ℕ, false, length, take, drop, IfOk, IfErr, OnOk, OnErr};
+ghost use Rattle.std.specs.Prelude.{◌≡◌, ◌<◌, ◌≤◌, [], ℕ, List, false, length, take, drop, IfOk, IfErr, OnOk, OnErr};
 ghost use Rattle.kept_records.specs.Logs.{HasNoLf};
 ghost use Rattle.script_input.specs.Lines.{last_part};
 ghost use Rattle.site_step.specs.Site.{Opens};
 ghost use Rattle.site_step.specs.Opening.{TellsLine, SparesLogs};
 ghost use Rattle.file_medium.specs.Copies.{IsCopyOf};
-ghost use Rattle.site_service.specs.Opening.{HoldsLines, KeepsLines, SparesLines, TellsBadLine};
-ghost use Rattle.site_service.specs.Service.{IsWhole};
+ghost use Rattle.site_service.specs.Opening.{HoldsLines, HoldsWhole, HoldsRecords, KeepsLines, SparesLines, TellsBadLine};
+ghost use Rattle.site_service.specs.Service.{IsWhole, IsTextOf};
 
+use crate::keys::NotedKeys;
+use caller_keys::split_notes;
 use field_bounds::{Entry, Schema, SiteNo};
 use file_medium::{FileFailed, LogFile, read_whole};
 use history::GhostHistory;
 use kept_records::{MediumFault, MemoryMedium};
 use memchr::memrchr;
 use site_step::{OpenFault, Site};
-use std::alloc::Global;
+use std::alloc::{AllocError, Global};
 
 // How many bytes the whole lines have: those up to and with the last LF.
 fn lines_length(bytes: &[u8]) -> usize
@@ -52,18 +54,18 @@ fn read_lines<F: LogFile>(alloc: Global, log: &mut F) -> Result<HeldLines, Mediu
     Ok(HeldLines { lines: held, torn })
 }
 
-// Cuts off what stands behind the whole lines of a log, where there is any of it.
-fn cut_behind<F: LogFile>(log: &mut F, lines: &[u8], torn: bool) -> Result<(), MediumFault>
-    requires lines { HoldsLines (F.bytes log.old) lines.now }
-    requires all { torn ≡ false → IsCopyOf (F.bytes log.old) lines.now }
-    ensures cut { OnOk result (IsCopyOf (F.bytes log.new) lines.now) }
+// Cuts off what stands behind the whole lines of a log, of so many bytes, where there is any of it.
+fn cut_behind<F: LogFile>(log: &mut F, whole: usize, torn: bool) -> Result<(), MediumFault>
+    requires lines { HoldsWhole (F.bytes log.old) whole torn }
+    ensures cut { (held : List ℕ) → HoldsLines (F.bytes log.old) held
+        → OnOk result (IsCopyOf (F.bytes log.new) held) }
     ensures safe { KeepsLines (F.bytes log.old) (F.safe log.old) (F.safe log.new) }
     ensures least { SparesLines (F.bytes log.old) (F.least log.old) (F.least log.new) }
 {
     if !torn {
         return Ok(());
     }
-    match log.cut(lines.len() as u64) {
+    match log.cut(whole as u64) {
         Ok(()) => Ok(()),
         Err(FileFailed) => Err(MediumFault::Device),
     }
@@ -82,22 +84,34 @@ fn make_safe<F: LogFile>(log: &mut F) -> Result<(), MediumFault>
     }
 }
 
-// Leaves in a log its whole lines alone, and makes them safe. What was safe of them still is, also
-// at the fault.
-fn keep_lines<F: LogFile>(log: &mut F, lines: &[u8], torn: bool) -> Result<(), MediumFault>
-    requires lines { HoldsLines (F.bytes log.old) lines.now }
-    requires all { torn ≡ false → IsCopyOf (F.bytes log.old) lines.now }
-    ensures bytes { OnOk result (IsCopyOf (F.bytes log.new) lines.now) }
-    ensures safe { OnOk result (IsCopyOf (F.safe log.new) lines.now) }
+// Leaves in a log its whole lines alone, of so many bytes, and makes them safe. What was safe of them
+// still is, also at the fault.
+fn keep_lines<F: LogFile>(log: &mut F, whole: usize, torn: bool) -> Result<(), MediumFault>
+    requires lines { HoldsWhole (F.bytes log.old) whole torn }
+    ensures bytes { (held : List ℕ) → HoldsLines (F.bytes log.old) held
+        → OnOk result (IsCopyOf (F.bytes log.new) held) }
+    ensures safe { (held : List ℕ) → HoldsLines (F.bytes log.old) held
+        → OnOk result (IsCopyOf (F.safe log.new) held) }
     ensures kept { OnErr result (KeepsLines (F.bytes log.old) (F.safe log.old)
         (F.safe log.new)) }
     ensures least { SparesLines (F.bytes log.old) (F.least log.old) (F.least log.new) }
 {
-    cut_behind(log, lines, torn)?;
+    cut_behind(log, whole, torn)?;
     make_safe(log)
 }
 
-// Opens the site over whole lines. The medium is dropped at a fault.
+// The keys that the notes of whole lines tell, and their records. The error is want of memory.
+fn split_lines(alloc: Global, lines: Vec<u8>) -> Result<(NotedKeys, Vec<u8>), AllocError>
+    requires whole { last_part lines.items ≡ [] }
+    ensures is { IfOk result (λ parts. IsTextOf lines.items parts.0.last parts.1.items) }
+    ensures none { IfOk result (λ parts. parts.0.lines ≡ []) }
+    ensures whole { IfOk result (λ parts. last_part parts.1.items ≡ []) }
+{
+    let (table, records) = split_notes(alloc, lines)?;
+    Ok((NotedKeys::of_table(alloc, table), records))
+}
+
+// Opens the site over whole lines of records. The medium is dropped at a fault.
 fn open_site(
     alloc: Global,
     schema: &Schema,
@@ -118,21 +132,30 @@ fn open_site(
     }
 }
 
-/// Opens the site over the whole lines of a log. Then what stands behind them is cut off, and they
-/// are made safe. A log that is refused stays as it is; and at each fault what was safe of its whole
-/// lines still is.
+/// What a log was opened as: the site over its records, and the keys of its notes.
+#[derive(Drop)]
+pub(crate) struct OpenedLog {
+    pub(crate) site: Site<MemoryMedium, GhostHistory<Entry>>,
+    pub(crate) keys: NotedKeys,
+}
+
+/// Opens the site over the records among the whole lines of a log, and takes the keys of its notes.
+/// Then what stands behind the whole lines is cut off, and they are made safe. A log that is refused
+/// stays as it is; and at each fault what was safe of its whole lines still is.
 pub(crate) fn open_lines<F: LogFile>(
     alloc: Global,
     schema: &Schema,
     number: SiteNo,
     log: &mut F,
-) -> Result<Site<MemoryMedium, GhostHistory<Entry>>, OpenFault>
+) -> Result<OpenedLog, OpenFault>
     requires in_schema { number.0 < schema.now.sites }
-    ensures lines { IfOk result (λ site. HoldsLines (F.bytes log.old) site.bytes) }
-    ensures opens { IfOk result (λ site. Opens schema.now number site.bytes 0 site) }
-    ensures whole { IfOk result IsWhole }
-    ensures bytes { IfOk result (λ site. IsCopyOf (F.bytes log.new) site.bytes) }
-    ensures safe { IfOk result (λ site. IsCopyOf (F.safe log.new) site.bytes) }
+    ensures lines { IfOk result (λ opened. (held : List ℕ)
+        × HoldsRecords (F.bytes log.old) held opened.keys.last opened.site.bytes
+        × IsCopyOf (F.bytes log.new) held × IsCopyOf (F.safe log.new) held) }
+    ensures none { IfOk result (λ opened. opened.keys.lines ≡ []) }
+    ensures opens { IfOk result (λ opened. Opens schema.now number opened.site.bytes 0
+        opened.site) }
+    ensures whole { IfOk result (λ opened. IsWhole opened.site) }
     ensures line { IfErr result (TellsBadLine schema.now number (F.bytes log.old)) }
     ensures kept { OnErr result (KeepsLines (F.bytes log.old) (F.safe log.old)
         (F.safe log.new)) }
@@ -146,7 +169,9 @@ pub(crate) fn open_lines<F: LogFile>(
 {
     let held = read_lines(alloc, log)?;
     let torn = held.torn;
-    let site = open_site(alloc, schema, number, held.lines)?;
-    keep_lines(log, site.medium().bytes(), torn)?;
-    Ok(site)
+    let whole = held.lines.as_slice().len();
+    let (keys, records) = split_lines(alloc, held.lines)?;
+    let site = open_site(alloc, schema, number, records)?;
+    keep_lines(log, whole, torn)?;
+    Ok(OpenedLog { site, keys })
 }

@@ -4,17 +4,22 @@ ghost use Rattle.std.specs.Prelude.{◌≡◌, ◌<◌, [], true, length, List, 
 ghost use Rattle.entry_text.specs.Lines.{max_line};
 ghost use Rattle.script_input.specs.Streams.{HasRefused};
 ghost use Rattle.file_medium.specs.Copies.{IsCopyOf};
-ghost use Rattle.site_service.specs.Kept.{TellsCommit};
+ghost use Rattle.site_service.specs.Answers.{LeavesAnswer};
+ghost use Rattle.site_service.specs.Index.{IsFollowed};
+ghost use Rattle.site_service.specs.Kept.{TellsCommit, TellsKey};
 ghost use Rattle.site_service.specs.Opening.{IsOpened, IsStarted, IsSafe, KeepsLines, SparesLines, TellsBadLine};
-ghost use Rattle.site_service.specs.Service.{IsWhole, Grows, IsSettled, KeepsLog, HasApplied, HasAnswered, LetsOut, HoldsBack};
+ghost use Rattle.site_service.specs.Service.{IsWhole, Grows, AddsNotesFirst, IsSettled, KeepsLog, HasApplied, HasAnswered, LetsOut, HoldsBack};
 ghost use Rattle.site_service.specs.Serving.{CountsWrites};
 ghost use Rattle.site_service.specs.Traces.{trace_of, HasTold, HasKept};
 
 use crate::answering::{answer_line, carry_out};
 use crate::fault::ServeFault;
-use crate::following::{add_safely, let_out};
+use crate::following::{add_both, add_safely, let_out};
 use crate::kept::KeptCommits;
-use crate::opening::open_lines;
+use crate::keyed::kept_with;
+use crate::keys::NotedKeys;
+use crate::opening::{OpenedLog, open_lines};
+use caller_keys::Key;
 use field_bounds::{Command, Entry, Schema, SiteNo, TxnId};
 use file_medium::{FileFailed, LogFile};
 use history::GhostHistory;
@@ -43,6 +48,7 @@ pub struct Service<F: LogFile> {
     site: Site<MemoryMedium, GhostHistory<Entry>>,
     schema: Schema,
     kept: KeptCommits,
+    keys: NotedKeys,
     lines: u64,
     waiting: Vec<u8>,
     log: F,
@@ -56,11 +62,12 @@ impl<F: LogFile> Model for Service<F> {
 
     ghost Value = { ServiceValue };
 
-    ghost view = { λ s. value_of s.site s.lines s.waiting.items (F.bytes s.log) (F.safe s.log)
-        (F.least s.log) s.settled s.lost };
+    ghost view = { λ s. value_of s.site s.keys.last s.lines s.waiting.items (F.bytes s.log)
+        (F.safe s.log) (F.least s.log) s.settled s.lost };
 
-    ghost invariant = { λ s. IsSoundService s.schema (value_of s.site s.lines s.waiting.items
-        (F.bytes s.log) (F.safe s.log) (F.least s.log) s.settled s.lost) s.kept };
+    ghost invariant = { λ s. IsSoundService s.schema (value_of s.site s.keys.last s.lines
+        s.waiting.items (F.bytes s.log) (F.safe s.log) (F.least s.log) s.settled s.lost) s.kept
+        s.keys.lines };
 }
 
 impl<F: LogFile + Drop> Service<F> {
@@ -112,7 +119,7 @@ impl<F: LogFile + Drop> Service<F> {
     {
         let mut log = log;
         match open_lines(alloc, &schema, number, &mut log) {
-            Ok(site) => Service::start(alloc, schema, site, log, trace),
+            Ok(opened) => Service::start(alloc, schema, opened, log, trace),
             Err(fault) => Err((fault, log)),
         }
     }
@@ -121,18 +128,20 @@ impl<F: LogFile + Drop> Service<F> {
     fn start<T: LogFile>(
         alloc: Global,
         schema: Schema,
-        site: Site<MemoryMedium, GhostHistory<Entry>>,
+        opened: OpenedLog,
         log: F,
         trace: &mut T,
     ) -> Result<Service<F>, (OpenFault, F)>
-        requires own { site.schema ≡ schema }
-        requires whole { IsWhole site }
-        requires bytes { IsCopyOf (F.bytes log) site.bytes }
-        requires safe { IsCopyOf (F.safe log) site.bytes }
-        ensures ok { IfOk result (IsStarted site) }
+        requires own { opened.site.schema ≡ schema }
+        requires whole { IsWhole opened.site }
+        requires none { opened.keys.lines ≡ [] }
+        requires text { IsFollowed (F.bytes log) (F.safe log) opened.keys.last
+            opened.site.bytes }
+        ensures ok { IfOk result (IsStarted opened.site opened.keys.last) }
         ensures line { IfErr result (λ left. (n : ℕ) → left.0 ≡ OpenFault.Line n → ⊥) }
-        ensures safe { MatchResult result (λ made. IsSafe made.safe site.bytes)
-            (λ left. IsSafe (F.safe left.1) site.bytes) }
+        ensures safe { (held : List ℕ) → IsCopyOf (F.bytes log) held → IsCopyOf (F.safe log) held
+            → MatchResult result (λ made. IsSafe made.safe held)
+            (λ left. IsSafe (F.safe left.1) held) }
         ensures least { MatchResult result (λ made. made.least ≡ F.least log)
             (λ left. F.least left.1 ≡ F.least log) }
         ensures told { IfOk result (λ made. HasTold (trace_of (T.bytes trace.old) (T.safe trace.old))
@@ -141,11 +150,13 @@ impl<F: LogFile + Drop> Service<F> {
             (trace_of (T.bytes trace.new) (T.safe trace.new)) []) }
         ensures uncut { T.least trace.new ≡ T.least trace.old }
     {
+        let OpenedLog { site, keys } = opened;
         let settled = site.medium().bytes().len();
         let mut service = Service {
             site,
             schema,
             kept: KeptCommits::new(alloc),
+            keys,
             lines: 0,
             waiting: Vec::new(alloc),
             log,
@@ -196,6 +207,24 @@ impl<F: LogFile> Service<F> {
         self.kept.holds(alloc, self.site.medium().bytes(), txn)
     }
 
+    /// The transaction whose commit is in the log with this key, where one is: so a client finds out
+    /// whose answer didn't come, and that no other commit with the key will be carried out. It is
+    /// that of the last note of the key, and is safe as for `has_kept`. The error is want of memory.
+    /// Costs a look-up of the key, and what `has_kept` costs.
+    pub fn kept_key(&mut self, alloc: Global, key: Key<'_>) -> Result<Option<TxnId>, AllocError>
+        ensures kept { IfOk result (TellsKey self.old.served.site.bytes self.old.served.last
+            key.entry.bytes.now) }
+        ensures same { self.new ≡ self.old }
+    {
+        kept_with(
+            alloc,
+            &mut self.kept,
+            &self.keys,
+            self.site.medium().bytes(),
+            key,
+        )
+    }
+
     /// Carries out a command; the line of its entry waits. Where memory is refused no answer waits;
     /// the command may have been carried out, as by a stop of which nobody sees the answer. Costs
     /// what the site's own step costs, and the text.
@@ -203,8 +232,9 @@ impl<F: LogFile> Service<F> {
         ensures ok { OnOk result (HasApplied command self.old self.new) }
         ensures err { OnErr result (self.new.waiting ≡ self.old.waiting) }
 
-        // Nothing of the site is lost, also where memory is refused.
+        // Nothing of the site or of the keys is lost, also where memory is refused.
         ensures grows { Grows self.old.served.site self.new.served.site }
+        ensures last { self.new.served.last ≡ self.old.served.last }
         ensures log { KeepsLog self.old self.new }
     {
         carry_out(
@@ -218,13 +248,19 @@ impl<F: LogFile> Service<F> {
 
     /// Answers a line, without its LF: the entry of the command that it asks of this site; or `bad
     /// line N WHY`, N the number of the line, from 1 since the service was opened. The answer
-    /// waits. The answer to a line of more than 256 bytes is that to any other such line. Where
-    /// memory is refused no answer waits; a command may have been carried out.
+    /// waits. A commit with a key is carried out only where none is kept with the key, and else
+    /// answered by which one is. The answer to a line of more than 256 bytes is that to any other
+    /// such line. Where memory is refused no answer waits; a command may have been carried out, and
+    /// the key of a commit is noted then.
     pub fn answer(&mut self, alloc: Global, line: &[u8]) -> Result<(), AllocError>
         ensures ok { OnOk result (HasAnswered line.now self.old self.new) }
         ensures long { (whole : List ℕ) → max_line < length line.now → max_line < length whole
             → OnOk result (HasAnswered whole self.old self.new) }
         ensures err { OnErr result (self.new.waiting ≡ self.old.waiting) }
+
+        // Where memory is refused all is as it was, or the line did what it does but for its text: no
+        // commit with a key stands without its note.
+        ensures left { OnErr result (LeavesAnswer self.old.served line.now self.new.served) }
 
         // Nothing of the site is lost, also where memory is refused.
         ensures grows { Grows self.old.served.site self.new.served.site }
@@ -236,6 +272,7 @@ impl<F: LogFile> Service<F> {
             &mut self.site,
             &self.schema,
             &mut self.kept,
+            &mut self.keys,
             &mut self.waiting,
             self.lines,
             line,
@@ -265,6 +302,8 @@ impl<F: LogFile> Service<F> {
     fn settle_behind<T: LogFile>(&mut self, trace: &mut T) -> Result<(), Device>
         ensures ok { OnOk result (IsSettled self.new) }
         ensures safe { OnErr result (self.new.safe ≡ self.old.safe) }
+        ensures front { (text : List ℕ) → IsCopyOf self.old.log text → IsCopyOf self.old.safe text
+            → OnOk result (IsSafe self.new.safe text) }
         ensures least { self.new.least ≡ self.old.least }
         ensures served { self.new.served ≡ self.old.served }
         ensures waiting { self.new.waiting ≡ self.old.waiting }
@@ -285,6 +324,8 @@ impl<F: LogFile> Service<F> {
         ensures line { IfErr result (λ fault. (n : ℕ) → fault ≡ OpenFault.Line n → ⊥) }
         ensures grows { Grows self.old.served.site self.new.served.site }
         ensures safe { OnErr result (self.new.safe ≡ self.old.safe) }
+        ensures front { (text : List ℕ) → IsCopyOf self.old.log text → IsCopyOf self.old.safe text
+            → OnOk result (IsSafe self.new.safe text) }
         ensures least { self.new.least ≡ self.old.least }
         ensures told { OnOk result (HasTold (trace_of (T.bytes trace.old) (T.safe trace.old))
             (trace_of (T.bytes trace.new) (T.safe trace.new)) self.new.waiting) }
@@ -299,14 +340,24 @@ impl<F: LogFile> Service<F> {
         }
     }
 
-    /// Brings the log to what the medium holds, by one sync where that is more than it has: at Ok
-    /// the record of each answer so far is safe. At the fault, which is a fault of the file in this
-    /// call or an earlier one, nothing is let out any more; what was safe still is. Costs no
-    /// memory.
+    /// Brings the log to what the medium holds, and to the notes of all keys, by one sync where that is
+    /// more than it has: at Ok the record of each answer so far is safe, and so is the key of each
+    /// commit, whose note stands in front of the records that are new. At the fault, which is a
+    /// fault of the file in this call or an earlier one, nothing is let out any more; what was safe
+    /// still is. Costs no memory.
     pub fn settle(&mut self) -> Result<(), Device>
         ensures ok { OnOk result (IsSettled self.new) }
         ensures err { OnErr result (self.new.lost ≡ true) }
         ensures safe { OnErr result (self.new.safe ≡ self.old.safe) }
+
+        // What the log gets are lines of notes, and the records behind them: so no front of that has
+        // a record without its note.
+        ensures order { (text : List ℕ) → IsCopyOf self.old.log text → OnOk result (AddsNotesFirst
+            self.new.log text self.old.settled self.old.served.site.bytes) }
+
+        // A text that the log held, all safe, stands in it still, and maybe more behind it.
+        ensures front { (text : List ℕ) → IsCopyOf self.old.log text → IsCopyOf self.old.safe text
+            → OnOk result (IsSafe self.new.safe text) }
         ensures lost { self.old.lost ≡ true → self.new.lost ≡ true }
         ensures least { self.new.least ≡ self.old.least }
         ensures served { self.new.served ≡ self.old.served }
@@ -317,12 +368,13 @@ impl<F: LogFile> Service<F> {
         }
         let held = self.site.medium().bytes();
         let all = held.len();
-        if self.settled == all {
+        if self.settled == all && self.keys.is_logged() {
             return Ok(());
         }
-        match add_safely(&mut self.log, &held[self.settled..]) {
+        match add_both(&mut self.log, self.keys.lines(), &held[self.settled..]) {
             Ok(()) => {
                 self.settled = all;
+                self.keys.clear_lines();
                 Ok(())
             }
             Err(FileFailed) => {

@@ -9,8 +9,8 @@ returns-in_err-reply-clause-grows c = λ whole. grows_same c.args.site.now c.app
 pub returns-clause-ok : goal.returns-clause-ok
 returns-clause-ok c =
     on_ok_weaker c.add_entry.result
-    (λ added. told_entry c.args.schema.now c.site-number.result c.args.site.now c.apply.new.self c.args.command c.in_ok-reply.reply c.args.out.now.items
-    c.add_entry.new.out.items c.requires.schema c.site-number.ensures.value c.in_ok-reply.ensures.ok added) c.add_entry.ensures.ok
+    (told_entry c.args.schema.now c.site-number.result c.args.site.now c.apply.new.self c.requires.schema c.site-number.ensures.value c.args.command
+    c.in_ok-reply.reply c.in_ok-reply.ensures.ok c.args.out.now.items c.add_entry.new.out.items) c.add_entry.ensures.ok
 
 pub returns-clause-grows : goal.returns-clause-grows
 returns-clause-grows c = λ whole.

@@ -1,16 +1,26 @@
+use Rattle.std.proofs.Common.{inl}
 use Rattle.std.proofs.lemmas.Result.{on_ok_weaker}
 use Rattle.site_service.proofs.Whole.{grows_by, grows_same}
-use Rattle.site_service.proofs.Told.{told_entry}
+use Rattle.site_service.proofs.Told.{told_entry, left_entry, any_err}
 use Rattle.site_service.proofs.answering.carry_out_spelled.Goals as goal
 
 pub returns-in_err-reply-clause-grows : goal.returns-in_err-reply-clause-grows
 returns-in_err-reply-clause-grows c = λ whole. grows_same c.args.site.now c.apply.new.self c.in_err-reply.ensures.err whole
 
+pub returns-in_err-reply-clause-left : goal.returns-in_err-reply-clause-left
+returns-in_err-reply-clause-left c = any_err _ _ (inl c.in_err-reply.ensures.err)
+
 pub returns-clause-ok : goal.returns-clause-ok
 returns-clause-ok c =
     on_ok_weaker c.add_spelled.result
-    (λ added. told_entry c.args.schema.now c.site-number.result c.args.site.now c.apply.new.self c.args.command c.in_ok-reply.reply c.args.out.now.items
-    c.add_spelled.new.out.items c.requires.schema c.site-number.ensures.value c.in_ok-reply.ensures.ok added) c.add_spelled.ensures.ok
+    (told_entry c.args.schema.now c.site-number.result c.args.site.now c.apply.new.self c.requires.schema c.site-number.ensures.value c.args.command
+    c.in_ok-reply.reply c.in_ok-reply.ensures.ok c.args.out.now.items c.add_spelled.new.out.items) c.add_spelled.ensures.ok
+
+pub returns-clause-left : goal.returns-clause-left
+returns-clause-left c =
+    any_err _ _
+    (left_entry c.args.schema.now c.site-number.result c.args.site.now c.apply.new.self c.requires.schema c.site-number.ensures.value c.args.command
+    c.in_ok-reply.reply c.in_ok-reply.ensures.ok)
 
 pub returns-clause-grows : goal.returns-clause-grows
 returns-clause-grows c = λ whole.

@@ -1,5 +1,5 @@
 use Rattle.std.proofs.Common.{sym, subst}
-use Rattle.std.proofs.lemmas.Result.{err_from_is_err_and, on_ok_weaker, on_err_weaker}
+use Rattle.std.proofs.lemmas.Result.{on_ok_weaker, on_err_weaker}
 use Rattle.file_medium.specs.Copies.{IsCopyOf}
 use Rattle.site_service.specs.Opening.{KeepsLines, SparesLines}
 use Rattle.site_service.proofs.opening.keep_lines.Goals as goal
@@ -7,10 +7,10 @@ use Rattle.site_service.proofs.opening.keep_lines.Goals as goal
 pub returns : goal.returns
 returns g c =
     let known = g.F.LogFile.bytes c.args.log.now in record {
-      bytes = on_ok_weaker c.make_safe.result (λ same. subst (λ k. IsCopyOf k c.args.lines.now) (sym same) c.in_ok-cut_behind.ensures.cut)
-          c.make_safe.ensures.bytes;
-      safe = on_ok_weaker c.make_safe.result (λ same. subst (λ k. IsCopyOf k c.args.lines.now) (sym same) c.in_ok-cut_behind.ensures.cut)
-          c.make_safe.ensures.safe;
+      bytes = λ held lines. on_ok_weaker c.make_safe.result
+          (λ same. subst (λ k. IsCopyOf k held) (sym same) (c.in_ok-cut_behind.ensures.cut held lines)) c.make_safe.ensures.bytes;
+      safe = λ held lines. on_ok_weaker c.make_safe.result
+          (λ same. subst (λ k. IsCopyOf k held) (sym same) (c.in_ok-cut_behind.ensures.cut held lines)) c.make_safe.ensures.safe;
       kept = on_err_weaker c.make_safe.result
           (λ same. subst (KeepsLines known (g.F.LogFile.safe c.args.log.now)) (sym same) c.in_ok-cut_behind.ensures.safe) c.make_safe.ensures.kept;
       least = subst (SparesLines known (g.F.LogFile.least c.args.log.now)) (sym c.make_safe.ensures.least) c.in_ok-cut_behind.ensures.least;

@@ -4,6 +4,7 @@ use Rattle.kept_records.specs.Keeping.{IsKept}
 use Rattle.site_service.specs.Kept.{TellsCommit}
 use Rattle.site_service.specs.Index.{IsIndexOf}
 use Rattle.site_service.specs.Service.{ServiceValue}
+use Rattle.site_service.proofs.Links.{sound_looked}
 use Rattle.site_service.proofs.Whole.{whole_kept}
 use Rattle.site_service.proofs.service.Service.has_kept.Goals as goal
 
@@ -26,4 +27,5 @@ pub invariant_of-self : goal.invariant_of-self
 invariant_of-self g c =
     let s = c.self.inside in
     let is : c.bytes.result.now ≡ s.site.bytes = c.bytes.ensures.bytes ∙ c.medium.ensures.bytes in
-    record { linked = c.self.invariant.linked; index = subst (IsIndexOf c.holds.new.self) is c.holds.ensures.index }
+    sound_looked s.schema s.site s.keys.last s.lines s.waiting.items (g.F.LogFile.bytes s.log) (g.F.LogFile.safe s.log) (g.F.LogFile.least s.log) s.settled
+    s.lost s.kept s.keys.lines c.self.invariant c.holds.new.self (subst (IsIndexOf c.holds.new.self) is c.holds.ensures.index)

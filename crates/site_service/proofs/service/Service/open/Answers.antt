@@ -1,33 +1,43 @@
-use Rattle.std.proofs.Common.{◌≡◌, ℕ, [], refl, sym, subst}
+use Rattle.std.proofs.Common.{[], refl, sym, subst}
 use Rattle.std.proofs.lemmas.Result.{IfOk-weaker, IfErr-weaker, MatchResult-weaker}
 use Rattle.site_service.specs.Opening.{SparesLines}
 use Rattle.site_service.specs.Traces.{trace_of}
 use Rattle.site_service.proofs.Tracing.{told_none, kept_of}
+use Rattle.site_service.proofs.KeyedTexts.{whole_lines_are}
 use Rattle.site_service.proofs.Links.{is_opened, names_not}
 use Rattle.site_service.proofs.Starts.{keeps_all}
 use Rattle.site_service.proofs.service.Service.open.Goals as goal
 
 pub start-requires : goal.start-requires
-start-requires g c = record {
-  own = c.in-Ok.ensures.opens.schema;
-  whole = c.in-Ok.ensures.whole;
-  bytes = c.in-Ok.ensures.bytes;
-  safe = c.in-Ok.ensures.safe;
-}
+start-requires g c =
+    let lines = c.in-Ok.ensures.lines in
+    record {
+      own = c.in-Ok.ensures.opens.schema;
+      whole = c.in-Ok.ensures.whole;
+      none = c.in-Ok.ensures.none;
+      text = record {
+        text = lines.0;
+        lines = whole_lines_are lines.0 lines.1.lines.lines.whole;
+        is = lines.1.is;
+        log = lines.2;
+        safe = lines.3;
+      };
+    }
 
 pub returns-in-Ok : goal.returns-in-Ok
 returns-in-Ok g c =
     let known = g.F.LogFile.bytes c.args.log in
     let was = g.F.LogFile.safe c.args.log in
     let r = c.start.result in
-    let holds = c.in-Ok.ensures.lines in
+    let lines = c.in-Ok.ensures.lines in
+    let holds = lines.1.lines in
     let spared = c.in-Ok.ensures.least in
     record {
-      ok = IfOk-weaker r _ _ (λ made started. is_opened c.args.schema c.args.number known c.in-Ok.site made holds c.in-Ok.ensures.opens started)
-          c.start.ensures.ok;
+      ok = IfOk-weaker r _ _ (λ made started. is_opened c.args.schema c.args.number known lines.0 c.in-Ok.opened.keys.last c.in-Ok.opened.site made
+          lines.1 c.in-Ok.ensures.opens started) c.start.ensures.ok;
       line = IfErr-weaker r _ _ (λ left none. names_not c.args.schema c.args.number known left.0 none) c.start.ensures.line;
-      safe = MatchResult-weaker r c.start.ensures.safe (λ made safe. keeps_all known was made.safe c.in-Ok.site.bytes holds safe)
-          (λ left safe. keeps_all known was (g.F.LogFile.safe left.1) c.in-Ok.site.bytes holds safe);
+      safe = MatchResult-weaker r (c.start.ensures.safe lines.0 lines.2 lines.3) (λ made safe. keeps_all known was made.safe lines.0 holds safe)
+          (λ left safe. keeps_all known was (g.F.LogFile.safe left.1) lines.0 holds safe);
       least = MatchResult-weaker r c.start.ensures.least (λ made same. subst (SparesLines known (g.F.LogFile.least c.args.log)) (sym same) spared)
           (λ left same. subst (SparesLines known (g.F.LogFile.least c.args.log)) (sym same) spared);
       same_bytes = IfErr-weaker r _ _ (λ left none n is. absurd (none n is)) c.start.ensures.line;

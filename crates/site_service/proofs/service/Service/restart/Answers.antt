@@ -1,4 +1,5 @@
-use Rattle.std.proofs.Common.{◌≡◌, [], refl, sym, subst, ◌∙◌}
+use Rattle.std.proofs.Common.{ℕ, List, [], Option, refl, sym, subst, ◌∙◌}
+use Rattle.file_medium.specs.Copies.{IsCopyOf}
 use Rattle.std.proofs.lemmas.Result.{err_from_is_err_and}
 use Rattle.field_bounds.specs.declared.entry.Command.TheVariants.{Restart}
 use Rattle.site_service.specs.Answers.{Served}
@@ -18,6 +19,7 @@ returns-in_err-apply g c =
       line = λ n is. cc;
       grows = c.apply.ensures.grows;
       safe = c.apply.ensures.log.safe;
+      front = λ text log safe. tt;
       least = c.apply.ensures.log.least;
       told = tt;
       kept = kept_of trace trace [] (told_none trace);
@@ -32,6 +34,9 @@ returns-in-Ok g c = record {
   line = tt;
   grows = subst (λ (s : Served). Grows c.args.self.now.served.site s.site) (sym c.in-Ok.ensures.served) c.apply.ensures.grows;
   safe = tt;
+  front = λ text log safe.
+      c.in-Ok.ensures.front text (subst (λ (k : Option (List ℕ)). IsCopyOf k text) (sym c.apply.ensures.log.log) log)
+      (subst (λ (k : Option (List ℕ)). IsCopyOf k text) (sym c.apply.ensures.log.safe) safe);
   least = c.in-Ok.ensures.least ∙ c.apply.ensures.log.least;
   told = subst (HasTold _ _) (sym c.in-Ok.ensures.waiting) c.in-Ok.ensures.told;
   kept = tt;
@@ -45,6 +50,7 @@ returns-in-Err g c = record {
   line = λ n is. cc;
   grows = subst (λ (s : Served). Grows c.args.self.now.served.site s.site) (sym c.in-Err.ensures.served) c.apply.ensures.grows;
   safe = c.in-Err.ensures.safe ∙ c.apply.ensures.log.safe;
+  front = λ text log safe. tt;
   least = c.in-Err.ensures.least ∙ c.apply.ensures.log.least;
   told = tt;
   kept = c.in-Err.ensures.kept;

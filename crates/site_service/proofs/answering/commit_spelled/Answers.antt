@@ -1,0 +1,45 @@
+use Rattle.std.proofs.Common.{sym, ap, ◌∙◌, inl, inr}
+use Rattle.std.proofs.lemmas.Result.{on_ok_weaker}
+use Rattle.field_bounds.specs.declared.id.SiteNo.{SiteNo}
+use Rattle.field_bounds.specs.declared.entry.Command.TheVariants.{Commit}
+use Rattle.entry_text.specs.Spelling.{command_text}
+use Rattle.site_service.proofs.Whole.{grows_by, grows_same}
+use Rattle.site_service.proofs.Told.{commits_with, any_err}
+use Rattle.site_service.proofs.answering.commit_spelled.Goals as goal
+
+pub add_spelled-requires : goal.add_spelled-requires
+add_spelled-requires c = record {
+  spelled = c.without_key-spelled.ensures.front (command_text c.args.schema.now c.args.site.now.site (Commit c.args.txn)) c.requires.asks.text
+      ∙ ap (λ (n : SiteNo). command_text c.args.schema.now n (Commit c.args.txn)) (sym c.site-number.ensures.value);
+}
+
+pub returns-in_err-reply-clause-left : goal.returns-in_err-reply-clause-left
+returns-in_err-reply-clause-left c = any_err _ _ (inl (c.in_err-reply.ensures.err, c.in_err-reply.ensures.same))
+
+pub returns-in_err-reply-clause-grows : goal.returns-in_err-reply-clause-grows
+returns-in_err-reply-clause-grows c = λ whole. grows_same c.args.site.now c.commit_and_note.new.site c.in_err-reply.ensures.err whole
+
+pub returns-clause-ok : goal.returns-clause-ok
+returns-clause-ok c =
+    on_ok_weaker c.add_spelled.result
+    (λ added. (
+      _,
+      commits_with c.args.schema.now c.site-number.result c.args.site.now c.commit_and_note.new.site c.requires.schema c.site-number.ensures.value
+          c.args.txn c.in_ok-reply.reply c.in_ok-reply.ensures.ok c.args.keys.now.last c.commit_and_note.new.keys.last c.args.key.bytes.now
+          c.in_ok-reply.ensures.noted,
+      added,
+    )) c.add_spelled.ensures.ok
+
+pub returns-clause-left : goal.returns-clause-left
+returns-clause-left c =
+    any_err _ _
+    (inr (
+      _,
+      commits_with c.args.schema.now c.site-number.result c.args.site.now c.commit_and_note.new.site c.requires.schema c.site-number.ensures.value
+          c.args.txn c.in_ok-reply.reply c.in_ok-reply.ensures.ok c.args.keys.now.last c.commit_and_note.new.keys.last c.args.key.bytes.now
+          c.in_ok-reply.ensures.noted,
+    ))
+
+pub returns-clause-grows : goal.returns-clause-grows
+returns-clause-grows c = λ whole.
+    grows_by c.args.site.now c.commit_and_note.new.site (Commit c.args.txn) c.in_ok-reply.reply c.in_ok-reply.ensures.ok whole
