@@ -3,6 +3,7 @@
 mod batches;
 mod faults;
 mod kept;
+mod keys;
 mod starts;
 mod traces;
 mod turns;
