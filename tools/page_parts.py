@@ -3,7 +3,7 @@
 
     tools/page_parts.py [--check]
 
-docs/ARCHITECTURE.md, `graph`: each crate of crates.txt, the crates that it stands on (those that others imply left
+docs/ARCHITECTURE.md, `graph`: each crate of crates.txt, by its floors, the crates that it stands on (those that others imply left
 out), those whose proof files it cites, and the kit's libraries. The crates *_tests are left out.
 
 docs/DEFINITIONS.md, `index`: each definition of crates/*/specs that the contract of an exported function or trait
@@ -46,9 +46,20 @@ def wrapped(text: str, first: str = "", rest: str = "") -> str:
 # ---- the graph
 
 
+def floors_of() -> list[tuple[str, dict[str, list[str]]]]:
+    """What crates.txt has: each block's comment, with its crates and what each stands on."""
+    floors: list[tuple[str, dict[str, list[str]]]] = []
+    for line in text_of("crates.txt").splitlines()[1:]:
+        head, _, needs = line.partition(":")
+        if line.startswith("#"):
+            floors.append((line[1:].strip(), {}))
+        elif line:
+            floors[-1][1][head.split()[0]] = needs.split()
+    return floors
+
+
 def needs_of() -> dict[str, list[str]]:
-    lines = [line for line in text_of("crates.txt").splitlines() if line and not line.startswith("#")]
-    return {head.split()[0]: needs.split() for head, _, needs in (line.partition(":") for line in lines)}
+    return {crate: needs for _, floor in floors_of() for crate, needs in floor.items()}
 
 
 def cited_proofs(crate: str) -> set[str]:
@@ -57,21 +68,28 @@ def cited_proofs(crate: str) -> set[str]:
 
 
 def graph() -> str:
-    needs, below, lines = needs_of(), dict[str, set[str]](), list[str]()
-    for crate, named in needs.items():
-        crates = [it for it in named if it in needs]
-        below[crate] = set(crates).union(*(below[it] for it in crates))
-        if crate.endswith("_tests"):
-            continue
-        implied = set[str]().union(*(below[it] for it in crates))
-        proofs = cited_proofs(crate)
-        told = [", ".join(it for it in crates if it not in implied) or "no crate"]
-        if proofs:
-            told.append("proofs of " + ", ".join(it for it in needs if it in proofs))
-        if len(crates) < len(named):
-            told.append("kit: " + ", ".join(it for it in named if it not in needs))
-        lines.append(wrapped(f"{crate}: {'; '.join(told)}", "    ", "        "))
-    return "\n".join(lines)
+    needs, below, texts = needs_of(), dict[str, set[str]](), list[str]()
+    for comment, floor in floors_of():
+        lines = [wrapped(comment, "    # ", "    # ")]
+        for crate, named in floor.items():
+            crates = [it for it in named if it in needs]
+            below[crate] = set(crates).union(*(below[it] for it in crates))
+            if not crate.endswith("_tests"):
+                lines.append(line_of(crate, named, crates, needs, below))
+        texts.append("\n".join(lines))
+    return "\n\n".join(texts)
+
+
+def line_of(crate: str, named: list[str], crates: list[str], needs: dict[str, list[str]], below: dict[str, set[str]]) -> str:
+    """A crate, what it stands on, whose proofs it cites, and the kit's libraries."""
+    implied = set[str]().union(*(below[it] for it in crates))
+    proofs = cited_proofs(crate)
+    told = [", ".join(it for it in crates if it not in implied) or "no crate"]
+    if proofs:
+        told.append("proofs of " + ", ".join(it for it in needs if it in proofs))
+    if len(crates) < len(named):
+        told.append("kit: " + ", ".join(it for it in named if it not in needs))
+    return wrapped(f"{crate}: {'; '.join(told)}", "    ", "        ")
 
 
 # ---- the index
