@@ -22,7 +22,7 @@ sum_of() {
 
 # The lines of crates.txt that it is made of: its crate's own, and those of the crates that this one stands on.
 crate_lines() {
-    awk -v name="$crate" -F'[: ]+' '!/^#/ { lines[++n] = $0; ours[$1] }
+    awk -v name="$crate" -F'[: ]+' '/:/ && !/^#/ { lines[++n] = $0; ours[$1] }
         BEGIN { needed[name] }
         END {
             for (i = n; i > 0; i--) {
