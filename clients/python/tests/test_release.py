@@ -16,7 +16,8 @@ import escrow_native
 import escrow_programs
 
 PLACES = ("clients/python/VERSION", "clients/python/CHANGELOG.md", "clients/python/escrow/__init__.py", "clients/go/go.mod",
-          "clients/rust/escrow/Cargo.toml", "clients/rust/served/Cargo.toml")
+          "clients/rust/escrow/Cargo.toml", "clients/rust/served/Cargo.toml", "crates/escrow_site/src/main.rt",
+          ".ci/site_misuse.py", "docs/FORMATS.md")
 
 
 def release(top: str, *words: str) -> tuple[int, str, str]:

@@ -254,9 +254,10 @@ class EndsTest(SiteTest):
         with site.transaction() as second:
             second.lower("stock", 4)
             second.abort()
-        for end in (escrow.Transaction.commit, escrow.Transaction.abort):
-            with site.transaction() as empty:
-                end(empty)
+        with site.transaction() as empty:
+            empty.commit()
+        with site.transaction() as empty:
+            empty.abort()
         self.assertEqual([site.outcome(it.id) for it in (first, second)], [Outcome.COMMITTED, Outcome.NOT_COMMITTED])
         with self.assertRaises(escrow.Over):
             with site.transaction() as third:
