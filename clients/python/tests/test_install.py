@@ -50,7 +50,7 @@ class InstallTest(unittest.TestCase):
     def test_each_machine(self) -> None:
         """A shop gets the client, the broker's machine the broker, and neither a browser, nor what only the tests need."""
         shop, broker = ["python3-paho-mqtt"], ["mosquitto"]
-        tests = [*broker, *shop, "chromium", "fonts-dejavu-core", "mypy", "golang-go"]
+        tests = [*broker, *shop, "python3-uvicorn", "chromium", "fonts-dejavu-core", "mypy", "golang-go"]
         asked: list[tuple[list[str], list[str]]] = [(["--shop"], shop), (["--broker"], broker), ([], broker + shop), (["--tests"], tests)]
         for words, packages in asked:
             told = "".join(f"install_clients: {it} is missing\n" for it in packages)

@@ -1,7 +1,8 @@
-"""The examples of the page README.md do what stands there: a first sale, a web service, carts, several processes, and orders by key."""
+"""The examples of the page README.md do what stands there: a first sale, two web services, carts, several processes, and orders by key."""
 
 from __future__ import annotations
 
+import importlib.util
 import os
 import re
 import shutil
@@ -13,6 +14,10 @@ import unittest
 
 from programs import PACKAGES, SiteTest, escrow_site
 import escrow
+
+UVICORN = importlib.util.find_spec("uvicorn") is not None
+NAMES = ["sale.py", "shop.py", "app.py", "carts.py", "worker.py", "once.py"]
+"""What is typed first in each."""
 
 
 def blocks() -> list[str]:
@@ -37,16 +42,26 @@ def free_port() -> int:
 class ReadmeTest(SiteTest):
     """What is typed, and what it prints."""
 
+    def types(self, text: str, printed: str) -> None:
+        """Types it, and compares what it prints."""
+        if "curl " in text and not shutil.which("curl"):
+            self.skipTest("curl isn't there")
+        environment = {**os.environ, "ESCROW_SITE": escrow_site(), "PYTHONPATH": PACKAGES}
+        text = text.replace("python3 ", f'"{sys.executable}" ').replace("8080", str(free_port()))
+        told = subprocess.run(["sh", "-c", text], cwd=self.place, env=environment, capture_output=True, text=True, check=False)
+        self.assertEqual((told.stdout, told.stderr), (printed, ""))
+
     def test_each_example(self) -> None:
         found = examples()
-        self.assertEqual([typed.split()[2] for typed, _ in found], ["sale.py", "shop.py", "carts.py", "worker.py", "once.py"])
-        environment = {**os.environ, "ESCROW_SITE": escrow_site(), "PYTHONPATH": PACKAGES}
+        self.assertEqual([typed.split()[2] for typed, _ in found], NAMES)
         for text, printed in found:
-            if "curl " in text and not shutil.which("curl"):
-                self.skipTest("curl isn't there")
-            text = text.replace("python3 ", f'"{sys.executable}" ').replace("8080", str(free_port()))
-            told = subprocess.run(["sh", "-c", text], cwd=self.place, env=environment, capture_output=True, text=True, check=False)
-            self.assertEqual((told.stdout, told.stderr), (printed, ""))
+            if "uvicorn " not in text:
+                self.types(text, printed)
+
+    @unittest.skipUnless(UVICORN, "uvicorn isn't there: python3-uvicorn of Debian")
+    def test_workers_of_uvicorn(self) -> None:
+        (example,) = [(text, printed) for text, printed in examples() if "uvicorn " in text]
+        self.types(*example)
 
     def test_each_exception_has_a_row(self) -> None:
         with open(os.path.join(PACKAGES, "README.md"), encoding="utf-8") as file:
