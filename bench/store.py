@@ -9,8 +9,8 @@ other time in the order turned round, and FOLDER where all of them keep their fi
 It prints the median of each row with its least and greatest, and then ratios: each is the median of the ratios within a
 turn, since what else a disk does falls on all rows of a turn alike. What isn't installed is skipped, by name;
 `bench/install` installs it. With --versions it runs the rows of a site alone, each over a log of version 2, as `create`
-makes it, and over one of version 1, which has no sums. With --door it runs the rows of the Python client alone, and tells how
-long a change takes: half of them, and 99 of 100, at most.
+makes it, and over one of version 1, which has no sums. With --door it runs the rows of the Python client beside PostgreSQL's
+and those of Redis, and tells how long a change takes: half of them, and 99 of 100, at most.
 
 The rows:
 
@@ -23,7 +23,8 @@ The rows:
 - `door P x N tasks`: the same in P processes of N tasks each, over one door (`python3 -m escrow.door`).
 - `raw 1 deep`: a plain program (`bench/plain/raw_log.rs`) that the same client drives: it appends a record of 16 bytes,
   syncs it and answers.
-- `postgres N clients`: an UPDATE of one row, prepared, with the bound as its condition; by pgbench, over a socket.
+- `postgres N clients`: an UPDATE of one row, prepared, with the bound as its condition; by pgbench, over a socket. With --door
+  pgbench writes down how long each took.
 - `redis N clients`: a script that tests the bound and lowers one key; by redis-benchmark, over a socket, `appendfsync
   always`. With `-P 64` each client has 64 of them under way.
 
@@ -34,6 +35,8 @@ unpacks), and `rustc` for the plain one.
 import argparse
 import asyncio
 import contextlib
+import csv
+import glob
 import hashlib
 import json
 import os
@@ -67,6 +70,21 @@ class Row:
 
     name: str
     measure: Callable[[float], float]
+
+
+class Took:
+    """How long the changes of each row took, turn by turn: half of them at most, and 99 of 100, in milliseconds."""
+
+    def __init__(self) -> None:
+        self.turns: dict[str, list[tuple[float, float]]] = {}
+
+    def add(self, name: str, half: float, most: float) -> None:
+        self.turns.setdefault(name, []).append((half, most))
+
+    def tell(self) -> None:
+        for name, took in self.turns.items():
+            half, most = (statistics.median(it[place] for it in took) for place in (0, 1))
+            print(f"{name:32} a change takes {half:.2f} ms, 99 of 100 at most {most:.2f} ms")
 
 
 class Texts:
@@ -192,13 +210,12 @@ def site_rows(folder: str, with_versions: bool) -> Iterator[Row]:
 class Clients:
     """The Python client, over a site of its own, and over a door."""
 
-    def __init__(self, program: str, folder: str) -> None:
-        self.sites = Sites(program, folder)
-        self.took: dict[str, list[tuple[float, float]]] = {}
+    def __init__(self, program: str, folder: str, took: Took) -> None:
+        self.sites, self.took = Sites(program, folder), took
 
     def told(self, name: str, found: list[list[float]]) -> float:
         """The changes a second of all processes; how long they took is kept: the middle, and the longest of all."""
-        self.took.setdefault(name, []).append((statistics.mean(it[2] for it in found), max(it[3] for it in found)))
+        self.took.add(name, 1000 * statistics.mean(it[2] for it in found), 1000 * max(it[3] for it in found))
         return sum(it[0] for it in found) / max(it[1] for it in found)
 
     def in_process(self, tasks: int, name: str, seconds: float) -> float:
@@ -229,11 +246,6 @@ class Clients:
         for many, tasks in ((4, 16),) if is_short else DOORS:
             name = f"door {many} x {tasks} tasks"
             yield Row(name, lambda seconds, many=many, tasks=tasks, name=name: self.by_door(many, tasks, name, seconds))
-
-    def tell(self) -> None:
-        for name, took in self.took.items():
-            half, most = (1000 * statistics.median(it[place] for it in took) for place in (0, 1))
-            print(f"{name:32} a change takes {half:.2f} ms, 99 of 100 at most {most:.2f} ms")
 
 
 def client():
@@ -272,13 +284,11 @@ def work(path: str, tasks: int, seconds: float) -> None:
         print(json.dumps(sell(site, tasks, seconds)), flush=True)
 
 
-def client_rows(folder: str, is_short: bool) -> tuple[list[Row], Callable[[], None]]:
-    """The rows of the Python client, and what tells how long its changes took."""
+def client_rows(folder: str, is_short: bool, took: Took) -> Iterator[Row]:
+    """The rows of the Python client."""
     program = site_program()
-    if program is None:
-        return [], lambda: None
-    clients = Clients(program, folder)
-    return [*clients.rows(is_short)], clients.tell
+    if program is not None:
+        yield from Clients(program, folder, took).rows(is_short)
 
 
 def epoch_of(child: subprocess.Popen) -> int:
@@ -343,19 +353,34 @@ def postgres(folder: str, programs: str) -> Iterator[str]:
         subprocess.run([*control, "-m", "immediate", "stop"], **quiet)
 
 
-def postgres_rows(folder: str, socket: str) -> Iterator[Row]:
-    script = os.path.join(folder, "update.sql")
+def add_logged(logs: str, name: str, took: Took) -> None:
+    """Takes what pgbench wrote down: the third word of each line is how long one took, in microseconds."""
+    spent: list[int] = []
+    for path in glob.glob(f"{logs}.*"):
+        with open(path, encoding="ascii") as file:
+            spent += (int(line.split()[2]) for line in file)
+        os.unlink(path)
+    spent.sort()
+    took.add(name, spent[len(spent) // 2] / 1000, spent[len(spent) * 99 // 100] / 1000)
+
+
+def postgres_rows(folder: str, socket: str, took: Took | None) -> Iterator[Row]:
+    script, logs = os.path.join(folder, "update.sql"), os.path.join(folder, "pgbench_log")
     with open(script, "w", encoding="ascii") as file:
         file.write(UPDATE)
 
-    def measure(clients: int, seconds: float) -> float:
+    def measure(clients: int, name: str, seconds: float) -> float:
         words = ["pgbench", "-h", socket, "-U", "bench", "-n", "-M", "prepared", "-f", script, "-c", str(clients)]
-        words += ["-j", str(min(clients, 4)), "-T", str(max(1, round(seconds))), "postgres"]
-        told = subprocess.run(words, capture_output=True, text=True, check=True).stdout
+        words += ["-j", str(min(clients, 4)), "-T", str(max(1, round(seconds)))]
+        words += [] if took is None else ["-l", f"--log-prefix={logs}"]
+        told = subprocess.run([*words, "postgres"], capture_output=True, text=True, check=True).stdout
+        if took is not None:
+            add_logged(logs, name, took)
         return float(re.search(r"tps = ([0-9.]+)", told)[1])
 
     for clients in CLIENTS:
-        yield Row(f"postgres {clients} clients", lambda seconds, clients=clients: measure(clients, seconds))
+        name = f"postgres {clients} clients"
+        yield Row(name, lambda seconds, clients=clients, name=name: measure(clients, name, seconds))
 
 
 @contextlib.contextmanager
@@ -377,23 +402,26 @@ def redis(folder: str) -> Iterator[str]:
         yield socket
 
 
-def redis_rows(socket: str) -> Iterator[Row]:
+def redis_rows(socket: str, took: Took | None) -> Iterator[Row]:
     loaded = subprocess.run(["redis-cli", "-s", socket, "script", "load", LOWER], capture_output=True, text=True, check=True)
     script = loaded.stdout.strip()
 
-    def measure(clients: int, under_way: int, seconds: float) -> float:
-        def rate(count: int) -> float:
-            words = ["redis-benchmark", "-s", socket, "-q", "-n", str(count), "-c", str(clients), "-P", str(under_way)]
-            told = subprocess.run([*words, "evalsha", script, "1", "stock"], capture_output=True, text=True, check=True)
-            return float(re.findall(r"([0-9.]+) requests per second", told.stdout)[-1])
+    def told(clients: int, under_way: int, count: int) -> dict[str, str]:
+        words = ["redis-benchmark", "-s", socket, "--csv", "-n", str(count), "-c", str(clients), "-P", str(under_way)]
+        told = subprocess.run([*words, "evalsha", script, "1", "stock"], capture_output=True, text=True, check=True)
+        return list(csv.DictReader(told.stdout.splitlines()))[-1]
 
+    def measure(clients: int, under_way: int, name: str, seconds: float) -> float:
         # First few, to tell how many fill the time.
-        few = rate(clients * under_way * 20)
-        return rate(max(clients * under_way * 20, int(few * seconds)))
+        few = float(told(clients, under_way, clients * under_way * 20)["rps"])
+        found = told(clients, under_way, max(clients * under_way * 20, int(few * seconds)))
+        if took is not None:
+            took.add(name, float(found["p50_latency_ms"]), float(found["p99_latency_ms"]))
+        return float(found["rps"])
 
-    for clients in CLIENTS:
-        yield Row(f"redis {clients} clients", lambda seconds, clients=clients: measure(clients, 1, seconds))
-    yield Row("redis 64 clients -P 64", lambda seconds: measure(64, 64, seconds))
+    for clients, under_way in [*((clients, 1) for clients in CLIENTS), (64, 64)]:
+        name = f"redis {clients} clients{'' if under_way == 1 else f' -P {under_way}'}"
+        yield Row(name, lambda seconds, how=(clients, under_way, name): measure(*how, seconds))
 
 
 RATIOS = (
@@ -401,6 +429,14 @@ RATIOS = (
     ("door 1 x 64 tasks", "client 64 tasks"),
     ("door 4 x 2 tasks", "client 8 tasks"),
     ("door 1 x 1 tasks", "client 1 tasks"),
+    ("client 64 tasks", "postgres 64 clients"),
+    ("client 64 tasks", "redis 64 clients"),
+    ("door 1 x 1 tasks", "postgres 1 clients"),
+    ("door 4 x 2 tasks", "postgres 8 clients"),
+    ("door 4 x 16 tasks", "postgres 64 clients"),
+    ("door 1 x 1 tasks", "redis 1 clients"),
+    ("door 4 x 2 tasks", "redis 8 clients"),
+    ("door 4 x 16 tasks", "redis 64 clients"),
     *((Served(deep, it).name(), Served(deep, it, 1).name()) for deep in COMPARED for it in (True, False)),
     ("site 1 deep", "raw 1 deep"),
     ("site 1 deep", "postgres 1 clients"),
@@ -413,17 +449,17 @@ RATIOS = (
 )
 
 
-def server_rows(folder: str, stack: contextlib.ExitStack) -> Iterator[Row]:
+def server_rows(folder: str, stack: contextlib.ExitStack, took: Took | None) -> Iterator[Row]:
     """The rows of the servers that are installed, which run until the stack is closed."""
     programs = postgres_programs()
     if programs is None or shutil.which("pgbench") is None:
         print("skipped: PostgreSQL, which isn't installed")
     else:
-        yield from postgres_rows(folder, stack.enter_context(postgres(folder, programs)))
+        yield from postgres_rows(folder, stack.enter_context(postgres(folder, programs)), took)
     if shutil.which("redis-server") is None or shutil.which("redis-benchmark") is None:
         print("skipped: Redis, which isn't installed")
     else:
-        yield from redis_rows(stack.enter_context(redis(folder)))
+        yield from redis_rows(stack.enter_context(redis(folder)), took)
 
 
 def take_turn(rows: list[Row], seconds: float) -> dict[str, float]:
@@ -447,7 +483,7 @@ def main() -> None:
     parser.add_argument("turns", type=int, nargs="?", default=7, help="of all rows, one after another")
     parser.add_argument("--folder", default=None, help="where all keep their files")
     parser.add_argument("--versions", action="store_true", help="the versions of logs beside each other, and nothing else")
-    parser.add_argument("--door", action="store_true", help="the Python client beside a door, and nothing else")
+    parser.add_argument("--door", action="store_true", help="the Python client, a door, PostgreSQL and Redis, and nothing else")
     parser.add_argument("--sell", nargs=2, metavar=("PATH", "TASKS"), help=argparse.SUPPRESS)
     given = parser.parse_args()
     if given.sell:
@@ -456,14 +492,15 @@ def main() -> None:
     with contextlib.ExitStack() as stack:
         folder = stack.enter_context(tempfile.TemporaryDirectory(prefix="store-", dir=given.folder))
         os.chmod(folder, 0o755)
+        took = Took()
         rows = [] if given.door else [*site_rows(folder, given.versions)]
-        more, tell_took = ([], lambda: None) if given.versions else client_rows(folder, not given.door)
-        rows += more
-        if not given.versions and not given.door:
-            rows += [*raw_rows(folder), *server_rows(folder, stack)]
+        if not given.versions:
+            rows += [*client_rows(folder, not given.door, took)]
+            rows += [] if given.door else [*raw_rows(folder)]
+            rows += [*server_rows(folder, stack, took if given.door else None)]
         turns = [take_turn(rows if number % 2 == 0 else rows[::-1], given.seconds) for number in range(given.turns)]
         tell(rows, turns)
-        tell_took()
+        took.tell()
 
 
 if __name__ == "__main__":
