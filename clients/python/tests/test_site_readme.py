@@ -46,7 +46,7 @@ class ReadmeTest(SiteTest):
         """Types it, and compares what it prints."""
         if "curl " in text and not shutil.which("curl"):
             self.skipTest("curl isn't there")
-        environment = {**os.environ, "ESCROW_SITE": escrow_site(), "PYTHONPATH": PACKAGES}
+        environment = {**os.environ, "PYTHONUNBUFFERED": "", "ESCROW_SITE": escrow_site(), "PYTHONPATH": PACKAGES}
         text = text.replace("python3 ", f'"{sys.executable}" ').replace("8080", str(free_port()))
         told = subprocess.run(["sh", "-c", text], cwd=self.place, env=environment, capture_output=True, text=True, check=False)
         self.assertEqual((told.stdout, told.stderr), (printed, ""))
