@@ -1,6 +1,6 @@
 //! The open transactions, in order of begin.
 
-ghost use Rattle.std.specs.Prelude.{◌≡◌, ◌<◌, ◌≤◌, [], ◌∷◌, ◌++◌, true, false, length, is_some, OnOk, OnErr, OnSome, IfSome, IfNone};
+ghost use Rattle.std.specs.Prelude.{◌≡◌, ◌<◌, ◌≤◌, [], ◌∷◌, ◌++◌, true, false, length, is_some, option_map, slice_get, OnOk, OnErr, OnSome, IfSome, IfNone};
 ghost use Rattle.field_bounds.specs.Owed.{max_open, max_escrows};
 ghost use Rattle.escrow_journal.specs.Journal.{is_listed, escrows_at, rows_with, without, AreDistinct};
 ghost use Rattle.escrow_journal.specs.Kept.{rows_of, index_of};
@@ -122,6 +122,15 @@ impl Journal {
         ensures most { result ≤ max_open }
     {
         self.rows.len()
+    }
+
+    /// The n-th open transaction in order of begin, from 0, and None where no more than n are open.
+    /// Costs no look through them.
+    pub fn txn_at(&self, n: usize) -> Option<TxnId>
+        ensures value { result ≡ option_map (λ row. row.0) (slice_get self.now n) }
+    {
+        let row = self.rows.get(n)?;
+        Some(row.txn)
     }
 
     /// Whether a transaction is open. Costs a look through at most 64 rows.

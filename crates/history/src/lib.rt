@@ -8,3 +8,4 @@ mod unkept;
 
 pub use ghost_history::GhostHistory;
 pub use trait_history::History;
+pub use unkept::Unkept;

@@ -1,1 +1,2 @@
 pub mod RightsLaws
+pub mod Rows

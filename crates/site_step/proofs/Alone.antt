@@ -20,6 +20,7 @@ use Rattle.site_step.specs.declared.accounts.Accounts.{Accounts}
 use Rattle.site_step.specs.declared.extent.Extent.{Extent}
 use Rattle.site_step.specs.Site.{SiteValue, here, entry_of}
 use Rattle.site_step.specs.State.{IsSoundSite, before_taking_in, one_record_longer}
+use Rattle.site_step.specs.Resuming.{all_bytes}
 use Rattle.site_step.proofs.Calls.{none_due, wrote, unsure}
 use Rattle.site_step.proofs.Ends.{Ends}
 
@@ -33,26 +34,28 @@ module _ {v w : SiteValue} {up : Bool} {extent : Extent} {a : Accounts} (was : I
   alone : text kept ≡ text kept ++ []
   alone = sym (append-nil (text kept))
 
-  pub wrote_alone : (r : Reply) → r ≡ answer (here w) c → {h : List Entry} {b : Accounts} {bytes : List ℕ} {failed : ℕ}
+  pub wrote_alone : (r : Reply) (old : List ℕ) → r ≡ answer (here w) c → {h : List Entry} {b : Accounts} {bytes : List ℕ} {failed : ℕ}
       {left : Option Mishap} {size : ℕ} {later : Extent}
+      → v.bytes ≡ all_bytes v.gone old
       → TakesIn v.schema (before_taking_in a kept).standing kept true b.standing → b.journal ≡ (before_taking_in a kept).journal
       → b.last ≡ a.last
-      → Appends {T = Unit {0}} {E = Device} (Ok tt) v.bytes (text kept) bytes v.failed failed
-      → AppendFate {E = Device} v.foretold v.bytes (text kept) (Ok tt) bytes left
+      → Appends {T = Unit {0}} {E = Device} (Ok tt) old (text kept) bytes v.failed failed
+      → AppendFate {E = Device} v.foretold old (text kept) (Ok tt) bytes left
       → h ≡ entry_of v c r ∷ v.history → size ≡ length (text kept) → later ≡ one_record_longer extent size
-      → Ends w c r (Then h bytes failed left v.doubt) up later b
-  wrote_alone r owed {bytes = bytes} {failed = failed} {left = left} took open_ last_is added fate past long more =
-      wrote was is c none told r kept None kept_is owed (none_due was is c none told kept undue) took open_ last_is
-      (subst (λ (x : List ℕ). Appends {T = Unit {0}} {E = Device} (Ok tt) v.bytes x bytes v.failed failed) alone added)
-      (subst (λ (x : List ℕ). AppendFate {E = Device} v.foretold v.bytes x (Ok tt) bytes left) alone fate)
+      → Ends w c r (Then h (all_bytes v.gone bytes) failed left v.doubt) up later b
+  wrote_alone r old owed {bytes = bytes} {failed = failed} {left = left} whole took open_ last_is added fate past long more =
+      wrote was is c none told r kept None old whole kept_is owed (none_due was is c none told kept undue) took open_ last_is
+      (subst (λ (x : List ℕ). Appends {T = Unit {0}} {E = Device} (Ok tt) old x bytes v.failed failed) alone added)
+      (subst (λ (x : List ℕ). AppendFate {E = Device} v.foretold old x (Ok tt) bytes left) alone fate)
       past (long ∙ ap length alone) more
 
-  pub unsure_alone : (device : Device) {h : List Entry} {bytes : List ℕ} {failed : ℕ} {left : Option Mishap}
-      → Appends {T = Unit {0}} (Err device) v.bytes (text kept) bytes v.failed failed
-      → AppendFate v.foretold v.bytes (text kept) (Err device) bytes left
+  pub unsure_alone : (device : Device) (old : List ℕ) {h : List Entry} {bytes : List ℕ} {failed : ℕ} {left : Option Mishap}
+      → v.bytes ≡ all_bytes v.gone old
+      → Appends {T = Unit {0}} (Err device) old (text kept) bytes v.failed failed
+      → AppendFate v.foretold old (text kept) (Err device) bytes left
       → h ≡ entry_of v c Unsure ∷ v.history
-      → Ends w c Unsure (Then h bytes failed left (Some extent.count)) false extent a
-  unsure_alone device {bytes = bytes} {failed = failed} {left = left} added fate past =
-      unsure was is c none told kept None device kept_is (none_due was is c none told kept undue)
-      (subst (λ (x : List ℕ). Appends {T = Unit {0}} (Err device) v.bytes x bytes v.failed failed) alone added)
-      (subst (λ (x : List ℕ). AppendFate v.foretold v.bytes x (Err device) bytes left) alone fate) past
+      → Ends w c Unsure (Then h (all_bytes v.gone bytes) failed left (Some extent.count)) false extent a
+  unsure_alone device old {bytes = bytes} {failed = failed} {left = left} whole added fate past =
+      unsure was is c none told kept None device old whole kept_is (none_due was is c none told kept undue)
+      (subst (λ (x : List ℕ). Appends {T = Unit {0}} (Err device) old x bytes v.failed failed) alone added)
+      (subst (λ (x : List ℕ). AppendFate v.foretold old x (Err device) bytes left) alone fate) past

@@ -1,7 +1,7 @@
 -- What each call of a site needs and leaves: once for each, over the site as it is kept and as its callers see it.
 use Rattle.std.proofs.Common.{◌≡◌, ◌≢◌, ◌≤◌, ◌<◌, ℕ, ◌+◌, ◌-◌, Bool, true, false, ◌&&◌, List, [], ◌∷◌, ◌++◌, length, reverse, refl, sym, ap, subst, ◌∙◌, arith, Option, Some, None}
 use Rattle.std.specs.Prelude.{Ok, Err, unsigned_abs, unwrap_or, nat_le, if◌then◌else◌}
-use Rattle.std.proofs.lemmas.List.{length-reverse, reverse-append}
+use Rattle.std.proofs.lemmas.List.{length-append, length-reverse, reverse-append}
 use Rattle.field_bounds.specs.declared.id.TxnId.{TxnId}
 use Rattle.field_bounds.specs.declared.id.SiteNo.{SiteNo}
 use Rattle.field_bounds.specs.declared.id.FieldNo.{FieldNo}
@@ -47,12 +47,14 @@ use Rattle.log_replay.specs.Standing.{IsStandingFor}
 use Rattle.site_step.specs.declared.accounts.Accounts.{Accounts}
 use Rattle.site_step.specs.declared.extent.Extent.{Extent}
 use Rattle.site_step.specs.Site.{SiteValue, base_of, here, entry_of, HoldsLog}
-use Rattle.site_step.specs.State.{StandsOn, IsSoundSite, CanSettle, CanCarry, is_carried, after_settling, with_rights, before_taking_in, one_record_longer}
+use Rattle.site_step.specs.State.{StandsOn, IsSoundSite, counted_from, CanSettle, CanCarry, is_carried, after_settling, with_rights, before_taking_in, one_record_longer}
 use Rattle.site_step.proofs.Reading.{Reads, reads}
 use Rattle.kept_records.specs.declared.record.Record.TheVariants as records
 use Rattle.log_replay.specs.Standing.{HasSlots, CanTakeIn, TakesIn}
 use Rattle.log_replay.proofs.StandingLaws.{has_places}
-use Rattle.site_step.specs.Resuming.{IsLawfulLog, found_by, FailsOver, FullOver, StandsOver}
+use Rattle.site_step.specs.Resuming.{HoldsBehind, all_bytes, found_by, FailsOver, FullOver, StandsOver}
+use Rattle.site_step.proofs.Holding.{plain_append, plain_fewer}
+use Rattle.site_step.proofs.Prefixes.{all_first, appends_behind, append_fate_behind}
 use Rattle.site_step.proofs.Matching.{stands-journal_of, escrows_at-journal_of}
 use Rattle.site_step.proofs.Settling.{carried_no_restart}
 use Rattle.site_step.proofs.Standing.{next_is, next_is_closed, room_by, opened_by, few_by, enough_by, end_opened, escrows_are, stands_open, stands_begin, stands_grant, can_settle, stands_settled, can_carry, stands_carried}
@@ -60,7 +62,7 @@ use Rattle.site_step.proofs.Ends.{Ends, ends_refused, ends_answered, few_records
 use Rattle.site_step.proofs.Resumes.{stands_next, due_here}
 use Rattle.site_step.proofs.Writes.{record_is_plain, reached, may, lines_fit, is_there, ends_wrote, ends_unsure}
 use Rattle.site_step.proofs.Extents.{reach_seam}
-use Rattle.site_step.proofs.Restarts.{ends_failed, ends_full, few_behind, ends_restarted}
+use Rattle.site_step.proofs.Restarts.{held_log, ends_failed, ends_full, few_behind, ends_restarted}
 
 -- one entry more, in a history that was made larger before
 pub grew : {new mid old : List Entry} {e : Entry} → new ≡ mid ++ e ∷ [] → mid ≡ old → reverse new ≡ e ∷ reverse old
@@ -191,6 +193,20 @@ module _ {v w : SiteValue} {up : Bool} {extent : Extent} {a : Accounts} (was : I
 
   -- ---- an answer whose record is written
 
+  -- the site counts so many at most
+  few_counted : (past based : List Record) (e : Extent) → extent ≡ counted_from (length (plain past)) e → v.based ≡ past ++ based
+      → extent.count ≤ length (plain v.based) + length v.history → e.count ≤ length based + length v.history
+  few_counted past based e counted parts few =
+      omega (
+        arith,
+        few,
+        ap (λ (x : Extent). x.count) counted,
+        ap (λ (x : List Record). length (plain x)) parts,
+        ap length (plain_append past based),
+        length-append (plain past) (plain based),
+        plain_fewer based,
+      )
+
   module _ (c : Command) (none : first (refusals (here w) c) ≡ None) (told : writes (here w) c ≡ true) where
     abbrev unrefused : first (refusals (here v) c) ≡ None
     unrefused = none_of c none
@@ -280,47 +296,66 @@ module _ {v w : SiteValue} {up : Bool} {extent : Extent} {a : Accounts} (was : I
         ap (flat_map text) (told_ was.records was.rest was.log
         ∙ ap (λ (r : Record). piece v.schema v.site.0 was.records r) (same_record kept_is))
 
-    pub few_written : extent.count ≤ length v.based + length v.history
-    few_written = omega (arith, (reached v up extent a was c unrefused writing fits).count, few_records v up extent a was)
+    pub few_written : (past based : List Record) (e : Extent) → extent ≡ counted_from (length (plain past)) e → v.based ≡ past ++ based
+        → e.count ≤ length based + length v.history
+    few_written past based e counted parts =
+        few_counted past based e counted parts (omega (arith, (reached v up extent a was c unrefused writing fits).count, few_records v up extent a was))
 
-    pub wrote : (r : Reply) (kept : Record) (due : Option SummaryValue) {h : List Entry} {b : Accounts} {bytes : List ℕ} {failed : ℕ}
+    pub wrote : (r : Reply) (kept : Record) (due : Option SummaryValue) (old : List ℕ) {h : List Entry} {b : Accounts} {bytes : List ℕ} {failed : ℕ}
         {left : Option Mishap} {size : ℕ} {later : Extent}
+        → v.bytes ≡ all_bytes v.gone old
         → kept ≡ record_at (here w) c → r ≡ answer (here w) c
         → ((rs : List Record) (rest : List ℕ) → IsLog v.bytes rs rest → with_due kept due ≡ piece v.schema v.site.0 rs kept)
         → TakesIn v.schema (before_taking_in a kept).standing kept true b.standing → b.journal ≡ (before_taking_in a kept).journal
         → b.last ≡ a.last
-        → Appends {T = Unit {0}} {E = Device} (Ok tt) v.bytes (flat_map text (with_due kept due)) bytes v.failed failed
-        → AppendFate {E = Device} v.foretold v.bytes (flat_map text (with_due kept due)) (Ok tt) bytes left
+        → Appends {T = Unit {0}} {E = Device} (Ok tt) old (flat_map text (with_due kept due)) bytes v.failed failed
+        → AppendFate {E = Device} v.foretold old (flat_map text (with_due kept due)) (Ok tt) bytes left
         → h ≡ entry_of v c r ∷ v.history → size ≡ length (flat_map text (with_due kept due)) → later ≡ one_record_longer extent size
-        → Ends w c r (Then h bytes failed left v.doubt) up later b
-    wrote r kept due {h = h} {b = b} {bytes = bytes} {failed = failed} {left = left} {size = size} {later =
-        later} kept_is owed told_ took open_ last_is rows_with fate past long more =
+        → Ends w c r (Then h (all_bytes v.gone bytes) failed left v.doubt) up later b
+    wrote r kept due old {h = h} {b = b} {bytes = bytes} {failed = failed} {left = left} {size = size} {later =
+        later} whole kept_is owed told_ took open_ last_is added fate past long more =
         let same = same_record kept_is in
         let lines = lines_are kept due kept_is told_ in
-        let line = subst (λ (x : List ℕ). Appends {T = Unit {0}} {E = Device} (Ok tt) v.bytes x bytes v.failed failed) lines rows_with in
-        returned c r (Then h bytes failed left v.doubt) up later b
-        (subst (λ (e : Extent). Ends v c r (Then h bytes failed left v.doubt) up e b)
+        let new : List ℕ = all_bytes v.gone bytes in
+        let line = subst (λ (x : List ℕ). Appends {T = Unit {0}} {E = Device} (Ok tt) v.bytes x new v.failed failed) lines
+        (subst (λ (x : List ℕ). Appends {T = Unit {0}} {E = Device} (Ok tt) x (flat_map text (with_due kept due)) new v.failed failed)
+        (sym whole) (appends_behind (flat_map text v.gone) {T = Unit {0}} {E = Device} (Ok tt) old (flat_map text (with_due kept due)) bytes
+        v.failed failed added)) in
+        returned c r (Then h new failed left v.doubt) up later b
+        (subst (λ (e : Extent). Ends v c r (Then h new failed left v.doubt) up e b)
         (sym (more ∙ ap (one_record_longer extent) (long ∙ ap length lines)))
-        (ends_wrote v up extent a was c unrefused writing fits b bytes failed left r h
+        (ends_wrote v up extent a was c unrefused writing fits b new failed left r h
         (subst (λ (x : SiteValue). r ≡ answer (here x) c) (sym is) owed) past
         (stands_carried v.schema v.site.0 (base_of v) v.history a was.run (read there_now) was.records
         (was.stands there_now) was.lawful v.site c unrefused writing b
         (subst (λ (x : Record). TakesIn v.schema (before_taking_in a x).standing x true b.standing) same took)
         (subst (λ (x : Record). b.journal ≡ (before_taking_in a x).journal) same open_) last_is) line.0 line.1
-        (subst (λ (x : List ℕ). AppendFate {E = Device} v.foretold v.bytes x (Ok tt) bytes left) lines fate)))
+        (subst (λ (x : List ℕ). AppendFate {E = Device} v.foretold v.bytes x (Ok tt) new left) lines
+        (subst (λ (x : List ℕ). AppendFate {E = Device} v.foretold x (flat_map text (with_due kept due)) (Ok tt) new left) (sym whole)
+        (append_fate_behind (flat_map text v.gone) {E = Device} v.foretold old (flat_map text (with_due kept due)) (Ok tt) bytes left
+        fate)))))
 
     pub unsure : (kept : Record) (due : Option SummaryValue)
-        (device : Device) {h : List Entry} {bytes : List ℕ} {failed : ℕ} {left : Option Mishap} → kept ≡ record_at (here w) c
+        (device : Device) (old : List ℕ) {h : List Entry} {bytes : List ℕ} {failed : ℕ} {left : Option Mishap}
+        → v.bytes ≡ all_bytes v.gone old
+        → kept ≡ record_at (here w) c
         → ((rs : List Record) (rest : List ℕ) → IsLog v.bytes rs rest → with_due kept due ≡ piece v.schema v.site.0 rs kept)
-        → Appends {T = Unit {0}} (Err device) v.bytes (flat_map text (with_due kept due)) bytes v.failed failed
-        → AppendFate v.foretold v.bytes (flat_map text (with_due kept due)) (Err device) bytes left
-        → h ≡ entry_of v c Unsure ∷ v.history → Ends w c Unsure (Then h bytes failed left (Some extent.count)) false extent a
-    unsure kept due device {h = h} {bytes = bytes} {failed = failed} {left = left} kept_is told_ rows_with fate past =
+        → Appends {T = Unit {0}} (Err device) old (flat_map text (with_due kept due)) bytes v.failed failed
+        → AppendFate v.foretold old (flat_map text (with_due kept due)) (Err device) bytes left
+        → h ≡ entry_of v c Unsure ∷ v.history
+        → Ends w c Unsure (Then h (all_bytes v.gone bytes) failed left (Some extent.count)) false extent a
+    unsure kept due device old {h = h} {bytes = bytes} {failed = failed} {left = left} whole kept_is told_ added fate past =
         let lines = lines_are kept due kept_is told_ in
-        let line = subst (λ (x : List ℕ). Appends {T = Unit {0}} (Err device) v.bytes x bytes v.failed failed) lines rows_with in
-        returned c Unsure (Then h bytes failed left (Some extent.count)) false extent a
-        (ends_unsure v up extent a was c unrefused writing fits a bytes failed left device Unsure h refl past line.0 line.1
-        (subst (λ (x : List ℕ). AppendFate v.foretold v.bytes x (Err device) bytes left) lines fate))
+        let new : List ℕ = all_bytes v.gone bytes in
+        let line = subst (λ (x : List ℕ). Appends {T = Unit {0}} (Err device) v.bytes x new v.failed failed) lines
+        (subst (λ (x : List ℕ). Appends {T = Unit {0}} (Err device) x (flat_map text (with_due kept due)) new v.failed failed) (sym whole)
+        (appends_behind (flat_map text v.gone) {T = Unit {0}} (Err device) old (flat_map text (with_due kept due)) bytes v.failed failed
+        added)) in
+        returned c Unsure (Then h new failed left (Some extent.count)) false extent a
+        (ends_unsure v up extent a was c unrefused writing fits a new failed left device Unsure h refl past line.0 line.1
+        (subst (λ (x : List ℕ). AppendFate v.foretold v.bytes x (Err device) new left) lines
+        (subst (λ (x : List ℕ). AppendFate v.foretold x (flat_map text (with_due kept due)) (Err device) new left) (sym whole)
+        (append_fate_behind (flat_map text v.gone) v.foretold old (flat_map text (with_due kept due)) (Err device) bytes left fate))))
 
   -- ---- a begin
 
@@ -406,8 +441,19 @@ module _ {v w : SiteValue} {up : Bool} {extent : Extent} {a : Accounts} (was : I
 
   -- ---- a restart
 
-  pub lawful_log : IsLawfulLog v.schema v.site.0 v.bytes
-  lawful_log = record { records = was.records; rest = was.rest; log = was.log; lawful = was.lawful }
+  -- what the medium holds
+  pub holds_behind : {old : List ℕ} → v.bytes ≡ all_bytes v.gone old → HoldsBehind v.schema v.site.0 v.gone was.held was.rest old
+  holds_behind whole =
+      record {
+        log = held_log v up extent a was whole;
+        each = all_first v.gone was.held (subst (λ (x : List Record). AllByRecursion IsRecord x) was.parts was.log.each);
+        lawful = subst (λ (x : List Record). Lawful v.schema v.site.0 x) was.parts was.lawful;
+        begins = was.begins;
+      }
+
+  pub held_log_now : {old : List ℕ} → v.bytes ≡ all_bytes v.gone old
+      → (gone : List Record) × (held : List Record) × (rest : List ℕ) × HoldsBehind v.schema v.site.0 gone held rest old
+  held_log_now whole = (v.gone, was.held, was.rest, holds_behind whole)
 
   pub limits : IsSchema v.schema
   limits = was.ground.limits
@@ -422,58 +468,92 @@ module _ {v w : SiteValue} {up : Bool} {extent : Extent} {a : Accounts} (was : I
     replayed = n;
   }
 
-  pub fails : (turns : Option ℕ) (n : ℕ) {h : List Entry} {bytes : List ℕ} {failed : ℕ} {left : Option Mishap}
-      → FailsOver v.schema v.site.0 was.records turns was.rest v.bytes bytes v.foretold left v.failed failed
+  pub fails : (turns : Option ℕ) (n : ℕ) (old : List ℕ) {h : List Entry} {bytes : List ℕ} {failed : ℕ} {left : Option Mishap}
+      → v.bytes ≡ all_bytes v.gone old
+      → FailsOver v.schema v.site.0 (v.gone ++ was.held) turns was.rest (all_bytes v.gone old) bytes v.foretold left v.failed failed
       → n ≡ unwrap_or turns v.replayed
       → h ≡ entry_of v Restart StillDown ∷ v.history → Ends w Restart StillDown (ThenReplayed h bytes failed left v.doubt n) false extent a
-  fails turns n {h = h} {bytes = bytes} {failed = failed} {left = left} did told past =
+  fails turns n old {h = h} {bytes = bytes} {failed = failed} {left = left} whole did told past =
       returned Restart StillDown (ThenReplayed h bytes failed left v.doubt n) false extent a
-      (ends_failed v up extent a was a turns n bytes failed left h past did told)
+      (ends_failed v up extent a was a turns n bytes failed left h past
+      (subst (λ (x : List ℕ). FailsOver v.schema v.site.0 was.records turns was.rest x bytes v.foretold left v.failed failed) (sym whole)
+      (subst (λ (x : List Record). FailsOver v.schema v.site.0 x turns was.rest (all_bytes v.gone old) bytes v.foretold left v.failed failed) (sym was.parts)
+      did)) told)
 
-  pub fills : {h : List Entry} {bytes : List ℕ} {failed : ℕ} {left : Option Mishap}
-      → FullOver was.records v.bytes bytes v.foretold left v.failed failed
+  pub fills : (old : List ℕ) {h : List Entry} {bytes : List ℕ} {failed : ℕ} {left : Option Mishap}
+      → v.bytes ≡ all_bytes v.gone old
+      → FullOver (v.gone ++ was.held) (all_bytes v.gone old) bytes v.foretold left v.failed failed
       → h ≡ entry_of v Restart (Refused NumbersFull) ∷ v.history
       → Ends w Restart (Refused NumbersFull) (Then h bytes failed left v.doubt) up extent a
-  fills {h = h} {bytes = bytes} {failed = failed} {left = left} did past =
+  fills old {h = h} {bytes = bytes} {failed = failed} {left = left} whole did past =
       returned Restart (Refused NumbersFull) (Then h bytes failed left v.doubt) up extent a
-      (ends_full v up extent a was bytes failed left h past did)
+      (ends_full v up extent a was bytes failed left h past
+      (subst (λ (x : List ℕ). FullOver was.records x bytes v.foretold left v.failed failed) (sym whole)
+      (subst (λ (x : List Record). FullOver x (all_bytes v.gone old) bytes v.foretold left v.failed failed) (sym was.parts) did)))
 
-  pub seam : PartsAt v.bytes extent.length
-  seam = reach_seam extent v.bytes was.records was.rest was.log was.reaches
+  pub seam : {old : List ℕ} → v.bytes ≡ all_bytes v.gone old → PartsAt old extent.length
+  seam {old = old} whole = reach_seam extent old v.gone was.held was.rest (held_log v up extent a was whole) was.reaches
 
-  pub can_restart : (standing : Standing) (epoch : ℕ) {turns size : ℕ} {rest bytes : List ℕ} {failed : ℕ} {left : Option Mishap}
+  -- how a restart went, told of all records
+  abbrev Stood : (standing : Standing) (epoch turns size : ℕ) (rest old bytes : List ℕ) (left : Option Mishap) (failed : ℕ)
+      (behind : List Record) → Type 0
+  Stood standing epoch turns size rest old bytes left failed behind =
+      StandsOver v.schema v.site.0 was.held (v.gone ++ was.held) epoch turns size rest bytes v.foretold left v.failed failed
+      × IsStandingFor v.schema v.site.0 (v.gone ++ was.held) standing × AreBehind old extent.length behind
+
+  stood_all : {standing : Standing} {epoch turns size : ℕ} {rest old bytes : List ℕ} {left : Option Mishap} {failed : ℕ}
+      {behind : List Record} → Stood standing epoch turns size rest old bytes left failed behind
+      → StandsOver v.schema v.site.0 was.held was.records epoch turns size rest bytes v.foretold left v.failed failed
+      × IsStandingFor v.schema v.site.0 was.records standing
+  stood_all {standing = standing} {epoch = epoch} {turns = turns} {size = size} {rest = rest} {bytes = bytes} {left = left} {failed =
+      failed} did =
+      subst (λ (x : List Record). StandsOver v.schema v.site.0 was.held x epoch turns size rest bytes v.foretold left v.failed failed
+      × IsStandingFor v.schema v.site.0 x standing) (sym was.parts) (did.0, did.1)
+
+  pub can_restart : (standing : Standing) (epoch : ℕ) {turns size : ℕ} {rest old bytes : List ℕ} {failed : ℕ} {left : Option Mishap}
       {behind : List Record}
-      → StandsOver v.schema v.site.0 was.records epoch turns size rest bytes v.foretold left v.failed failed
-      × IsStandingFor v.schema v.site.0 was.records standing × AreBehind v.bytes extent.length behind
+      → Stood standing epoch turns size rest old bytes left failed behind
       → HasSlots v.schema standing.rights standing.ledger × CanTakeIn v.schema standing (records.Restart epoch)
       × IsRecord (records.Restart epoch)
   can_restart standing epoch did = (
-    has_places v.schema v.site.0 was.records standing.rights standing.ledger standing.epoch did.1.for_,
+    has_places v.schema v.site.0 (v.gone ++ was.held) standing.rights standing.ledger standing.epoch did.1.for_,
     omega (arith, did.0.epoch_is, did.1.for_.epoch),
     (omega (arith, did.0.epoch_is), omega (arith, did.0.epoch_is, did.0.some)),
   )
 
-  pub few_more : (behind : List Record) → AreBehind v.bytes extent.length behind
-      → extent.count + length (plain behind) ≤ length v.based + length v.history
-  few_more behind are = omega (arith, few_behind v up extent a was behind are, few_records v up extent a was)
+  pub few_more : (old : List ℕ) (past based : List Record) (e : Extent) → v.bytes ≡ all_bytes v.gone old
+      → extent ≡ counted_from (length (plain past)) e → v.based ≡ past ++ based → (behind : List Record) → AreBehind old e.length behind
+      → e.count + length (plain behind) ≤ length based + length v.history
+  few_more old past based e whole counted parts behind are =
+      let long : e.length ≡ extent.length = sym (ap (λ (x : Extent). x.length) counted) in
+      let at : e.count + length (plain past) ≡ extent.count = omega (arith, ap (λ (x : Extent). x.count) counted) in
+      omega (
+        arith,
+        at,
+        few_behind v up extent a was whole behind (subst (λ (n : ℕ). AreBehind old n behind) long are),
+        few_records v up extent a was,
+        ap (λ (x : List Record). length (plain x)) parts,
+        ap length (plain_append past based),
+        length-append (plain past) (plain based),
+        plain_fewer based,
+      )
 
   pub restarts : (standing : Standing) (behind : List Record) (epoch turns size behinds : ℕ)
-      (last : Last) {h : List Entry} {b : Accounts} {more : ℕ} {bytes : List ℕ} {failed : ℕ} {left : Option Mishap}
-      → StandsOver v.schema v.site.0 was.records epoch turns size was.rest bytes v.foretold left v.failed failed
-      × IsStandingFor v.schema v.site.0 was.records standing × AreBehind v.bytes extent.length behind
+      (last : Last) {h : List Entry} {b : Accounts} {more : ℕ} {old bytes : List ℕ} {failed : ℕ} {left : Option Mishap} {later : Extent}
+      → v.bytes ≡ all_bytes v.gone old
+      → Stood standing epoch turns size was.rest old bytes left failed behind
       → TakesIn v.schema standing (records.Restart epoch) true b.standing → b.journal ≡ [] → b.last ≡ 0 → last ≡ found_by v.doubt behind
       → more ≡ length (plain behind)
       → behinds ≡ (if nat_le max_behind (turns + 1) then 0 else turns + 1)
       → h ≡ entry_of v Restart (Restarted epoch last) ∷ v.history
-      → Ends w Restart (Restarted epoch last) (ThenReplayed h bytes failed left None turns) true
-      (record { count = extent.count + more + 1; length = size; behind = behinds }) b
-  restarts standing behind epoch turns size behinds last {h = h} {b = b} {more = more} {bytes = bytes} {failed = failed} {left =
-      left} did took open_ last_is last_by_ counted behinds_are past =
+      → later ≡ record { count = extent.count + more + 1; length = size; behind = behinds }
+      → Ends w Restart (Restarted epoch last) (ThenReplayed h bytes failed left None turns) true later b
+  restarts standing behind epoch turns size behinds last {h = h} {b = b} {more = more} {old = old} {bytes = bytes} {failed = failed} {left =
+      left} {later = later} whole did took open_ last_is last_by_ counted behinds_are past reached =
       let r : Reply = Restarted epoch last in
-      returned Restart r (ThenReplayed h bytes failed left None turns) true
-      (record { count = extent.count + more + 1; length = size; behind = behinds }) b
-      (ends_restarted v up extent a was standing behind epoch turns size behinds b bytes failed left r more h did.1 did.0 did.2 took open_
-      last_is (ap (λ (l : Last). Restarted epoch l) last_by_) counted
-      behinds_are past)
-
--- what a failed restart replayed, where it did
+      let all = stood_all did in
+      returned Restart r (ThenReplayed h bytes failed left None turns) true later b
+      (subst (λ (e : Extent). Ends v Restart r (ThenReplayed h bytes failed left None turns) true e b) (sym reached)
+      (ends_restarted v up extent a was standing behind epoch turns size behinds b old bytes failed left r more h whole all.1 all.0 did.2
+      took open_ last_is (ap (λ (l : Last). Restarted epoch l) last_by_) counted
+      behinds_are past))

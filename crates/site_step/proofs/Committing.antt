@@ -17,13 +17,14 @@ use Rattle.kept_records.specs.declared.record.Record.TheVariants as records
 use Rattle.kept_records.specs.Text.{text, IsRecord}
 use Rattle.kept_records.specs.Medium.{AppendFate}
 use Rattle.kept_records.specs.Keeping.{Appends}
-use Rattle.kept_records.specs.Stands.{max_behind}
+use Rattle.kept_records.specs.Stands.{plain, max_behind}
 use Rattle.kept_state.specs.Keeps.{record_at}
 use Rattle.log_replay.specs.Standing.{TakesIn}
 use Rattle.site_step.specs.declared.accounts.Accounts.{Accounts}
 use Rattle.site_step.specs.declared.extent.Extent.{Extent}
 use Rattle.site_step.specs.Site.{SiteValue, here, entry_of}
-use Rattle.site_step.specs.State.{IsSoundSite, CanClose, CanCarry, after_release, after_spending, one_record_longer}
+use Rattle.site_step.specs.Resuming.{all_bytes}
+use Rattle.site_step.specs.State.{IsSoundSite, counted_from, CanClose, CanCarry, after_release, after_spending, one_record_longer}
 use Rattle.site_step.proofs.Calls.{commit_escrows, commit_count, record_fits, can_write, none_due, few_written, wrote, unsure}
 use Rattle.site_step.proofs.Ends.{Ends}
 use Rattle.site_step.proofs.Spending.{spends}
@@ -48,8 +49,9 @@ module _ {v w : SiteValue} {up : Bool} {extent : Extent} {a : Accounts} (was : I
   pub can_spend : CanClose a txn
   can_spend = can_carry_it.ready
 
-  pub few_committed : extent.count ≤ length v.based + length v.history
-  few_committed = few_written was is (Commit txn) none commit_told
+  pub few_committed : (past based : List Record) (e : Extent) → extent ≡ counted_from (length (plain past)) e → v.based ≡ past ++ based
+      → e.count ≤ length based + length v.history
+  few_committed past based e counted parts = few_written was is (Commit txn) none commit_told past based e counted parts
 
   abbrev Then : List Entry → List ℕ → ℕ → Option Mishap → Option ℕ → SiteValue
   Then h bytes failed left doubt = record v { history = h; bytes = bytes; failed = failed; foretold = left; doubt = doubt }
@@ -58,33 +60,36 @@ module _ {v w : SiteValue} {up : Bool} {extent : Extent} {a : Accounts} (was : I
   alone : text kept ≡ text kept ++ []
   alone = sym (append-nil (text kept))
 
-  pub commits : nat_le max_behind (extent.behind + 1) ≡ false → {h : List Entry} {b : Accounts} {bytes : List ℕ} {failed : ℕ}
+  pub commits : nat_le max_behind (extent.behind + 1) ≡ false → (old : List ℕ) {h : List Entry} {b : Accounts} {bytes : List ℕ} {failed : ℕ}
       {left : Option Mishap} {size : ℕ} {later : Extent}
+      → v.bytes ≡ all_bytes v.gone old
       → b ≡ after_spending txn a
-      → Appends {T = Unit {0}} {E = Device} (Ok tt) v.bytes (text kept) bytes v.failed failed
-      → AppendFate {E = Device} v.foretold v.bytes (text kept) (Ok tt) bytes left
+      → Appends {T = Unit {0}} {E = Device} (Ok tt) old (text kept) bytes v.failed failed
+      → AppendFate {E = Device} v.foretold old (text kept) (Ok tt) bytes left
       → h ≡ entry_of v (Commit txn) Committed ∷ v.history → size ≡ length (text kept) → later ≡ one_record_longer extent size
-      → Ends w (Commit txn) Committed (Then h bytes failed left v.doubt) up later b
-  commits undue {h = h} {b = b} {bytes = bytes} {failed = failed} {left = left} {size = size} {later = later} spent added fate past long more =
-      subst (λ (x : Accounts). Ends w (Commit txn) Committed (Then h bytes failed left v.doubt) up later x) (sym spent)
-      (wrote was is (Commit txn) none commit_told Committed kept None kept_is refl
+      → Ends w (Commit txn) Committed (Then h (all_bytes v.gone bytes) failed left v.doubt) up later b
+  commits undue old {h = h} {b = b} {bytes = bytes} {failed = failed} {left = left} {size = size} {later =
+      later} whole spent added fate past long more =
+      subst (λ (x : Accounts). Ends w (Commit txn) Committed (Then h (all_bytes v.gone bytes) failed left v.doubt) up later x) (sym spent)
+      (wrote was is (Commit txn) none commit_told Committed kept None old whole kept_is refl
       (none_due was is (Commit txn) none commit_told kept undue)
       (subst (λ (xs : List Escrow). CanCarry v.schema a (records.Commit txn xs) →
       TakesIn v.schema (after_release txn a).standing (records.Commit txn xs) true (after_spending txn a).standing) (sym are)
       (spends v.schema a txn) can_carry_it)
       refl refl
-      (subst (λ (x : List ℕ). Appends {T = Unit {0}} {E = Device} (Ok tt) v.bytes x bytes v.failed failed) alone added)
-      (subst (λ (x : List ℕ). AppendFate {E = Device} v.foretold v.bytes x (Ok tt) bytes left) alone fate)
+      (subst (λ (x : List ℕ). Appends {T = Unit {0}} {E = Device} (Ok tt) old x bytes v.failed failed) alone added)
+      (subst (λ (x : List ℕ). AppendFate {E = Device} v.foretold old x (Ok tt) bytes left) alone fate)
       past (long ∙ ap length alone) more)
 
-  pub commit_unsure : nat_le max_behind (extent.behind + 1) ≡ false → (device : Device) {h : List Entry} {bytes : List ℕ} {failed : ℕ}
-      {left : Option Mishap}
-      → Appends {T = Unit {0}} (Err device) v.bytes (text kept) bytes v.failed failed
-      → AppendFate v.foretold v.bytes (text kept) (Err device) bytes left
+  pub commit_unsure : nat_le max_behind (extent.behind + 1) ≡ false → (device : Device) (old : List ℕ) {h : List Entry} {bytes : List ℕ}
+      {failed : ℕ} {left : Option Mishap}
+      → v.bytes ≡ all_bytes v.gone old
+      → Appends {T = Unit {0}} (Err device) old (text kept) bytes v.failed failed
+      → AppendFate v.foretold old (text kept) (Err device) bytes left
       → h ≡ entry_of v (Commit txn) Unsure ∷ v.history
-      → Ends w (Commit txn) Unsure (Then h bytes failed left (Some extent.count)) false extent a
-  commit_unsure undue device {h = h} {bytes = bytes} {failed = failed} {left = left} added fate past =
-      unsure was is (Commit txn) none commit_told kept None device kept_is
+      → Ends w (Commit txn) Unsure (Then h (all_bytes v.gone bytes) failed left (Some extent.count)) false extent a
+  commit_unsure undue device old {h = h} {bytes = bytes} {failed = failed} {left = left} whole added fate past =
+      unsure was is (Commit txn) none commit_told kept None device old whole kept_is
       (none_due was is (Commit txn) none commit_told kept undue)
-      (subst (λ (x : List ℕ). Appends {T = Unit {0}} (Err device) v.bytes x bytes v.failed failed) alone added)
-      (subst (λ (x : List ℕ). AppendFate v.foretold v.bytes x (Err device) bytes left) alone fate) past
+      (subst (λ (x : List ℕ). Appends {T = Unit {0}} (Err device) old x bytes v.failed failed) alone added)
+      (subst (λ (x : List ℕ). AppendFate v.foretold old x (Err device) bytes left) alone fate) past

@@ -23,7 +23,7 @@ use Rattle.site_step.specs.declared.accounts.Accounts.{Accounts}
 use Rattle.site_step.specs.declared.extent.Extent.{Extent}
 use Rattle.site_step.specs.Site.{SiteValue, base_of, here, entry_of, Holds, Finds, Applies}
 use Rattle.site_step.specs.Replaying.{downs_since, downs_before}
-use Rattle.site_step.proofs.Holding.{plain_fewer, same_told, holds_all}
+use Rattle.site_step.proofs.Holding.{same_told, holds_all}
 use Rattle.site_step.specs.State.{StandsOn, IsSoundSite}
 use Rattle.site_step.proofs.Settling.{answer_settles, refused_no_restart, refuses_over, noted_none, refusal_fits, answer_fits, refusal_owed, answer_owed, refusal_under, answer_under, answer_writes, lines_none}
 use Rattle.site_step.proofs.Standing.{stands_refused}
@@ -91,8 +91,8 @@ module _ (v : SiteValue) (up : Bool) (extent : Extent) (a : Accounts) (was : IsS
   pub held : Holds v.schema v.site.0 v.bytes rs was.rest
   held = holds_all v.schema v.site.0 v.bytes was.records was.rest was.log was.lawful
 
-  pub few_records : length rs ≤ length v.based + length v.history
-  few_records = omega (arith, keeps_length v.schema v.site.0 base (plain v.based) was.kept v.history rs was.keeps, plain_fewer v.based)
+  pub few_records : length rs ≤ length (plain v.based) + length v.history
+  few_records = omega (arith, keeps_length v.schema v.site.0 base (plain v.based) was.kept v.history rs was.keeps)
 
   -- ---- a refusal
 
@@ -111,6 +111,9 @@ module _ (v : SiteValue) (up : Bool) (extent : Extent) (a : Accounts) (was : IsS
           run = (was.run, refusal_fits at c x some);
           keeps = (rs, false, was.keeps, tt, sym (append-nil rs));
           up_is = was.up_is;
+          held = was.held;
+          parts = was.parts;
+          begins = was.begins;
           clean = was.clean;
           reaches = was.reaches;
           place = was.place;
@@ -122,7 +125,7 @@ module _ (v : SiteValue) (up : Bool) (extent : Extent) (a : Accounts) (was : IsS
         applies = record {
           fits = refusal_fits at c x some;
           entry = refl;
-          same = record { schema = refl; site = refl; fresh = refl; based = refl };
+          same = record { schema = refl; site = refl; fresh = refl; based = refl; gone = refl };
           failed = refl;
           logs = λ told rest log. record {
             stood = false;
@@ -179,6 +182,9 @@ module _ (v : SiteValue) (up : Bool) (extent : Extent) (a : Accounts) (was : IsS
             empty rs,
           );
           up_is = was.up_is ∙ sym (settles.up (is_up base v.history));
+          held = was.held;
+          parts = was.parts;
+          begins = was.begins;
           clean = was.clean;
           reaches = was.reaches;
           place = was.place;
@@ -193,7 +199,7 @@ module _ (v : SiteValue) (up : Bool) (extent : Extent) (a : Accounts) (was : IsS
         applies = record {
           fits = answer_fits at c n none;
           entry = refl;
-          same = record { schema = refl; site = refl; fresh = refl; based = refl };
+          same = record { schema = refl; site = refl; fresh = refl; based = refl; gone = refl };
           failed = sym (settles.failed v.failed);
           logs = λ told rest log. record {
             stood = false;

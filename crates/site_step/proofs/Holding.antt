@@ -62,7 +62,7 @@ same_told schema s bytes all rest rs other log holds =
 
 -- ---- lists
 
-all_more : (as1 bs : List Record) → AllByRecursion IsRecord as1 → AllByRecursion IsRecord bs → AllByRecursion IsRecord (as1 ++ bs)
+pub all_more : (as1 bs : List Record) → AllByRecursion IsRecord as1 → AllByRecursion IsRecord bs → AllByRecursion IsRecord (as1 ++ bs)
 all_more [] bs a b = b
 all_more (r ∷ as1) bs a b = (a.0, all_more as1 bs a.1 b)
 

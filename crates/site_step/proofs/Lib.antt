@@ -5,11 +5,15 @@ pub mod Standing
 pub mod Settling
 pub mod Ends
 pub mod Extents
+pub mod Prefixes
 pub mod Writes
 pub mod Resumes
 pub mod Restarts
 pub mod Fronts
 pub mod Opens
+pub mod FrontEnds
+pub mod Splits
+pub mod Shortens
 mod Calls
 mod Spending
 mod Committing

@@ -1,5 +1,7 @@
 -- A site that is opened is sound.
-use Rattle.std.proofs.Common.{◌≡◌, ℕ, ◌<◌, Bool, true, false, List, [], refl, sym, ap, subst, ◌∙◌, arith, Option, Some, None}
+use Rattle.std.specs.List.{AllByRecursion}
+use Rattle.kept_records.specs.Text.{IsRecord}
+use Rattle.std.proofs.Common.{◌≡◌, ℕ, ◌+◌, ◌<◌, Bool, true, false, List, [], ◌∷◌, ◌++◌, length, refl, sym, ap, subst, ◌∙◌, arith, Option, Some, None}
 use Rattle.field_bounds.specs.declared.id.SiteNo.{SiteNo}
 use Rattle.field_bounds.specs.declared.entry.Entry.{Entry}
 use Rattle.field_bounds.specs.declared.entry.Last.TheVariants.{Nothing}
@@ -13,18 +15,20 @@ use Rattle.kept_records.specs.Stands.{greatest, plain, since_summary, given_in, 
 use Rattle.kept_records.proofs.Summaries.{plain_same, plain_lawful}
 use Rattle.field_bounds.proofs.Sums.{sum_below-same}
 use Rattle.field_bounds.specs.Kind.{other}
-use Rattle.std.proofs.lemmas.List.{append-nil}
+use Rattle.std.proofs.lemmas.List.{append-nil, length-append}
 use Rattle.kept_records.proofs.Lines.{same_log}
 use Rattle.kept_state.specs.Keeps.{IsBase, base_of_records}
 use Rattle.kept_state.proofs.Ranges.{opened_in_range}
 use Rattle.kept_state.proofs.Covering.{stands_is_base, fresh_is_base}
 use Rattle.escrow_journal.specs.Journal.{Row}
 use Rattle.site_step.specs.declared.site.opening.Found.{Found}
-use Rattle.site_step.specs.Site.{SiteValue, value_of, base_of, Finds}
-use Rattle.site_step.specs.State.{StandsOn, IsSoundSite, ReachesAll}
+use Rattle.site_step.specs.Site.{SiteValue, value_of, doubt_behind, base_of, Finds, Opens}
+use Rattle.site_step.specs.State.{StandsOn, IsSoundSite, BeginsHeld, counted_from, ReachesAll}
+use Rattle.site_step.specs.Resuming.{all_bytes}
 use Rattle.site_step.specs.Opening.{IsFound}
 use Rattle.site_step.proofs.Ends.{finds_held}
-use Rattle.site_step.proofs.Holding.{greatest_plain, holds_all}
+use Rattle.site_step.proofs.Holding.{plain_append, greatest_plain, holds_all}
+use Rattle.site_step.proofs.Prefixes.{with_gone}
 
 -- bytes that are none hold no record
 pub no_bytes : (bytes : List ℕ) (rs : List Record) (rest : List ℕ) → IsLog bytes rs rest → bytes ≡ [] → rs ≡ []
@@ -62,12 +66,25 @@ plain_base schema s base bs is =
       accepted = λ from f k. is.accepted from f k ∙ sym (same.accepted from f k);
     }
 
+pub none_behind : (front bytes : List ℕ) → front ++ bytes ≡ [] → bytes ≡ []
+none_behind [] bytes none = none
+none_behind (b ∷ front) bytes none = absurd cc
+
 -- ---- a site over what was found
 
-module _ (schema : SchemaValue) (site : SiteNo) (found : Found) {held bytes : List ℕ} (is : IsFound schema site.0 held found)
-    (same : bytes ≡ held) where
+module _ (schema : SchemaValue) (site : SiteNo) (gone : List Record) (found : Found) {held bytes : List ℕ}
+    (is : IsFound schema site.0 gone held found) (same : bytes ≡ held) (each : AllByRecursion IsRecord gone)
+    (begins : BeginsHeld gone found.based.list.items) where
+  -- the records that are held, and all
+  abbrev first : List Record
+  first = found.based.list.items
+
   abbrev bs : List Record
-  bs = found.based.list.items
+  bs = gone ++ found.based.list.items
+
+  -- all bytes
+  abbrev whole : List ℕ
+  whole = all_bytes gone bytes
 
   base_is : (empty : Bool) → (empty ≡ true → bs ≡ []) → IsBase schema site.0 (base_of_records schema site.0 empty bs) (plain bs)
   base_is true none = subst (λ (rs : List Record). IsBase schema site.0 (fresh schema site.0) (plain rs)) (sym (none refl))
@@ -77,20 +94,24 @@ module _ (schema : SchemaValue) (site : SiteNo) (found : Found) {held bytes : Li
   stands_first : (base : Base) → StandsOn schema site.0 base [] bs (record { standing = found.standing; journal = []; last = 0 })
   stands_first base = record { standing = is.stands.for_; aside = record { held = is.stands.none; journal = refl }; last = refl }
 
-  log : IsLog bytes bs is.rest
-  log = subst (λ (b : List ℕ). IsLog b bs is.rest) (sym same) is.log
+  log : IsLog (all_bytes gone bytes) bs is.rest
+  log = with_gone gone first bytes is.rest each (subst (λ (b : List ℕ). IsLog b first is.rest) (sym same) is.log)
 
-  rest_none : bytes ≡ [] → is.rest ≡ []
+  counts : length (plain gone) + found.extent.count ≡ length (plain bs)
+  counts = omega (arith, is.count, ap length (plain_append gone first), length-append (plain gone) (plain first))
+
+  rest_none : whole ≡ [] → is.rest ≡ []
   rest_none none = (same_log [] bs [] is.rest [] (subst (λ (b : List ℕ). IsLog b bs is.rest) none log)
       (record { parts = refl; each = tt; no_lf = refl })).1
 
-  clean_by : (empty : Bool) → (empty ≡ true → bytes ≡ []) → empty ≡ true → (is.rest ≡ []) × ReachesAll found.extent bs
+  clean_by : (empty : Bool) → (empty ≡ true → whole ≡ []) → empty ≡ true
+      → (is.rest ≡ []) × ReachesAll (counted_from (length (plain gone)) found.extent) first bs
   clean_by empty none e =
-      let here = no_bytes bytes bs is.rest log (none e) in
+      let here = no_bytes whole bs is.rest log (none e) in
       let since : since_summary bs ≡ 0 = ap since_summary here ∙ since_none in (
         rest_none (none e),
         record {
-          count = is.count;
+          count = counts;
           length_is = is.length_is;
           behind = is.behind ∙ sym since;
           few =
@@ -98,18 +119,45 @@ module _ (schema : SchemaValue) (site : SiteNo) (found : Found) {held bytes : Li
         },
       )
 
+  -- what is told of a site that is opened so
+  pub opens_tells : (failed count : ℕ) (left : Option Mishap) (empty : Bool) {past left_out : List Record} {h : List Entry} → failed ≡ count
+      → past ≡ gone → left_out ≡ gone → h ≡ [] → (empty ≡ true → all_bytes gone held ≡ []) → (all_bytes gone held ≡ [] → empty ≡ true)
+      → Opens schema site (all_bytes gone held) count (value_of schema site empty (past ++ found.based.list.items) h bytes failed left
+      (doubt_behind (length (plain past)) None) 0 left_out)
+  opens_tells failed count left empty {past = past} {left_out = left_out} counts past_is gone_is new none some =
+      subst (λ (x : List Entry). Opens schema site (all_bytes gone held) count (value_of schema site empty (past ++ found.based.list.items) x
+      bytes failed left (doubt_behind (length (plain past)) None) 0 left_out)) (sym new)
+      (subst (λ (x : List Record). Opens schema site (all_bytes gone held) count (value_of schema site empty
+      (past ++ found.based.list.items) [] bytes failed left (doubt_behind (length (plain past)) None) 0 x)) (sym gone_is)
+      (subst (λ (x : List Record). Opens schema site (all_bytes gone held) count (value_of schema site empty
+      (x ++ found.based.list.items) [] bytes failed left (doubt_behind (length (plain x)) None) 0 gone)) (sym past_is)
+      (record {
+        schema = refl;
+        site = refl;
+        fresh = (none, some);
+        rest = is.rest;
+        based = with_gone gone first held is.rest each is.log;
+        lawful = is.lawful;
+        history = refl;
+        bytes = ap (all_bytes gone) same;
+        failed = counts;
+        doubt = refl;
+        replayed = refl;
+      })))
+
   up_by : (empty : Bool) → empty ≡ (base_of_records schema site.0 empty bs).up
   up_by true = refl
   up_by false = refl
 
   module _ (site_in : site.0 < schema.sites) (limits : IsSchema schema) (failed : ℕ) (left : Option Mishap) where
     abbrev made : Bool → List Entry → SiteValue
-    made empty h = value_of schema site empty bs h bytes failed left None 0
+    made empty h = value_of schema site empty bs h bytes failed left None 0 gone
 
-    sound : (empty : Bool) → (empty ≡ true → bytes ≡ [])
-        → IsSoundSite (made empty []) empty found.extent (record { standing = found.standing; journal = []; last = 0 })
+    sound : (empty : Bool) → (empty ≡ true → whole ≡ [])
+        → IsSoundSite (made empty []) empty (counted_from (length (plain gone)) found.extent)
+        (record { standing = found.standing; journal = []; last = 0 })
     sound empty none =
-        let base = base_is empty (λ e. no_bytes bytes bs is.rest log (none e)) in
+        let base = base_is empty (λ e. no_bytes whole bs is.rest log (none e)) in
         record {
           ground = record {
             site_in = site_in;
@@ -126,12 +174,15 @@ module _ (schema : SchemaValue) (site : SiteNo) (found : Found) {held bytes : Li
           run = tt;
           keeps = refl;
           up_is = up_by empty;
+          held = first;
+          parts = refl;
+          begins = begins;
           clean = clean_by empty none;
           reaches = record {
-            before = bs;
+            before = first;
             behind = [];
-            all = sym (append-nil bs);
-            count = is.count;
+            all = sym (append-nil first);
+            count = counts;
             length_is = is.length_is;
             first_ =
                 refl;
@@ -143,16 +194,31 @@ module _ (schema : SchemaValue) (site : SiteNo) (found : Found) {held bytes : Li
           stands = λ u. stands_first (base_of (made empty []));
         }
 
-    pub opens_sound : (empty : Bool) {h : List Entry} {j : List Row} → h ≡ [] → j ≡ [] → (empty ≡ true → held ≡ [])
-        → IsSoundSite (made empty h) empty found.extent (record { standing = found.standing; journal = j; last = 0 })
-    opens_sound empty {h = h} {j = j} new closed none =
-        subst (λ (x : List Row). IsSoundSite (made empty h) empty found.extent
-        (record { standing = found.standing; journal = x; last = 0 })) (sym closed)
-        (subst (λ (x : List Entry). IsSoundSite (made empty x) empty found.extent
-        (record { standing = found.standing; journal = []; last = 0 })) (sym new) (sound empty (λ e. same ∙ none e)))
+    -- with what only proofs see as it was made
+    abbrev told : Bool → List Record → List Record → List Entry → SiteValue
+    told empty past left_out h = value_of schema site empty (past ++ found.based.list.items) h bytes failed left
+        (doubt_behind (length (plain past)) None) 0 left_out
 
-    pub opens_finds : (empty : Bool) {h : List Entry} → h ≡ [] → held ≡ [] → Finds (made empty h) 0 Nothing
-    opens_finds empty new none =
-        subst (λ (x : List Entry). Finds (made empty x) 0 Nothing) (sym new)
-        (finds_held (made empty []) (plain bs) is.rest 0 Nothing (holds_all schema site.0 bytes bs is.rest log is.lawful)
-        (greatest_plain bs ∙ ap greatest (no_bytes bytes bs is.rest log (same ∙ none)) ∙ nothing_kept) refl)
+    pub opens_sound : (empty : Bool) {past left_out : List Record} {h : List Entry} {j : List Row} → past ≡ gone → left_out ≡ gone → h ≡ []
+        → j ≡ [] → (empty ≡ true → all_bytes gone held ≡ [])
+        → IsSoundSite (told empty past left_out h) empty (counted_from (length (plain past)) found.extent)
+        (record { standing = found.standing; journal = j; last = 0 })
+    opens_sound empty {past = past} {left_out = left_out} {h = h} {j = j} past_is gone_is new closed none =
+        subst (λ (x : List Row). IsSoundSite (told empty past left_out h) empty (counted_from (length (plain past)) found.extent)
+        (record { standing = found.standing; journal = x; last = 0 })) (sym closed)
+        (subst (λ (x : List Entry). IsSoundSite (told empty past left_out x) empty (counted_from (length (plain past)) found.extent)
+        (record { standing = found.standing; journal = []; last = 0 })) (sym new)
+        (subst (λ (x : List Record). IsSoundSite (told empty past x []) empty (counted_from (length (plain past)) found.extent)
+        (record { standing = found.standing; journal = []; last = 0 })) (sym gone_is)
+        (subst (λ (x : List Record). IsSoundSite (told empty x gone []) empty (counted_from (length (plain x)) found.extent)
+        (record { standing = found.standing; journal = []; last = 0 })) (sym past_is)
+        (sound empty (λ e. ap (all_bytes gone) same ∙ none e)))))
+
+    pub opens_finds : (empty : Bool) {past left_out : List Record} {h : List Entry} → past ≡ gone → left_out ≡ gone → h ≡ []
+        → all_bytes gone held ≡ [] → Finds (told empty past left_out h) 0 Nothing
+    opens_finds empty {past = past} {left_out = left_out} past_is gone_is new none =
+        subst (λ (x : List Entry). Finds (told empty past left_out x) 0 Nothing) (sym new)
+        (subst (λ (x : List Record). Finds (told empty past x []) 0 Nothing) (sym gone_is)
+        (subst (λ (x : List Record). Finds (told empty x gone []) 0 Nothing) (sym past_is)
+        (finds_held (made empty []) (plain bs) is.rest 0 Nothing (holds_all schema site.0 whole bs is.rest log is.lawful)
+        (greatest_plain bs ∙ ap greatest (no_bytes whole bs is.rest log (ap (all_bytes gone) same ∙ none)) ∙ nothing_kept) refl)))

@@ -48,12 +48,13 @@ use Rattle.site_step.specs.declared.accounts.Accounts.{Accounts}
 use Rattle.site_step.specs.declared.extent.Extent.{Extent}
 use Rattle.site_step.specs.Site.{SiteValue, base_of, here, entry_of, mishap_of, luck_under, owed_under, Holds, Finds, IsExact, Applies}
 use Rattle.site_step.specs.State.{row_of, StandsOn, IsSoundSite, ReachesAll}
-use Rattle.site_step.specs.Resuming.{next_restart, next_piece, found_by, Leaves, HasRead, FailsOver, FullOver, StandsOver}
+use Rattle.site_step.specs.Resuming.{next_restart, next_piece, found_by, Leaves, HasRead, FailsOver, FullOver, StandsOver, all_bytes}
 use Rattle.site_step.proofs.Standing.{stands_refused}
 use Rattle.site_step.specs.Replaying.{ReplaysFailed, downs_before}
 use Rattle.site_step.specs.Anew.{IsStoodFor}
 use Rattle.site_step.proofs.Holding.{greatest_plain, holds_all, same_told, plain_piece, piece_same, all_lawful, left_plain}
 use Rattle.site_step.proofs.Extents.{reach_all, reach_next, reach_more, behind_is, count_more, last_is}
+use Rattle.site_step.proofs.Prefixes.{without_gone, begins_more, parts_more}
 use Rattle.site_step.proofs.Resumes.{restart_may}
 use Rattle.site_step.proofs.Writes.{stands_as}
 use Rattle.site_step.proofs.Ends.{Ends, finds_of, finds_held, finds_same, quiet_doubt}
@@ -242,7 +243,7 @@ module _ (v : SiteValue) (up : Bool) (extent : Extent) (a : Accounts) (was : IsS
         record {
           fits = tt;
           entry = refl;
-          same = record { schema = refl; site = refl; fresh = refl; based = refl };
+          same = record { schema = refl; site = refl; fresh = refl; based = refl; gone = refl };
           failed = refl;
           logs = λ other more holds.
               record {
@@ -290,8 +291,11 @@ module _ (v : SiteValue) (up : Bool) (extent : Extent) (a : Accounts) (was : IsS
             run = (was.run, tt);
             keeps = (rs, stood, was.keeps, tt, told_is stood is);
             up_is = refl;
+            held = was.held ++ is.front;
+            parts = parts_more v.gone was.held all is.front was.parts;
+            begins = begins_more v.gone was.held is.front was.begins;
             clean = λ u. absurd (false≢true u);
-            reaches = reach_more extent all is.front is.first_ was.reaches;
+            reaches = reach_more extent v.gone was.held is.front is.first_ was.reaches;
             place = was.place;
             in_doubt = subst (λ (x : List Record). IsDoubt was.kept Failing x v.doubt) (sym (told_is stood is)) (in_doubt_then stood);
             few = λ h. omega (arith, is.one, was.few h);
@@ -357,6 +361,9 @@ module _ (v : SiteValue) (up : Bool) (extent : Extent) (a : Accounts) (was : IsS
           run = (was.run, fits);
           keeps = (rs, false, was.keeps, tt, sym (append-nil rs));
           up_is = was.up_is;
+          held = was.held;
+          parts = was.parts;
+          begins = was.begins;
           clean = was.clean;
           reaches = was.reaches;
           place = was.place;
@@ -368,7 +375,7 @@ module _ (v : SiteValue) (up : Bool) (extent : Extent) (a : Accounts) (was : IsS
         applies = record {
           fits = fits;
           entry = refl;
-          same = record { schema = refl; site = refl; fresh = refl; based = refl };
+          same = record { schema = refl; site = refl; fresh = refl; based = refl; gone = refl };
           failed = refl;
           logs = λ other rest is. record {
             stood = false;
@@ -439,7 +446,7 @@ module _ (v : SiteValue) (up : Bool) (extent : Extent) (a : Accounts) (was : IsS
           last = last_is_;
         }
 
-    module _ (anew_extent : Extent) (reached : ReachesAll anew_extent (all ++ lines)) (turns : ℕ) (turns_are : turns ≡ since_summary all)
+    module _ (anew_extent : Extent) (reached : ReachesAll anew_extent (was.held ++ lines) (all ++ lines)) (turns : ℕ) (turns_are : turns ≡ since_summary all)
         (bytes : List ℕ) (left : Option Mishap) (some : greatest all < max_epoch) (log : IsLog bytes (all ++ lines) [])
         (torn : (n : ℕ) → v.foretold ≡ Some (Append n) → ⊥) (read : v.foretold ≡ Some Read → ⊥) (cut : v.foretold ≡ Some Cut
         → was.rest ≡ []) (stays : left ≡ v.foretold) where
@@ -457,6 +464,9 @@ module _ (v : SiteValue) (up : Bool) (extent : Extent) (a : Accounts) (was : IsS
 
       plain_is : plain (all ++ lines) ≡ rs ++ next_restart rs ∷ []
       plain_is = plain_piece schema s all (next_restart all) refl ∙ ap (λ (r : Record). rs ++ r ∷ []) (sym next_same)
+
+      parts_anew : all ++ lines ≡ v.gone ++ (was.held ++ lines)
+      parts_anew = parts_more v.gone was.held all lines was.parts
 
       lawful_anew : Lawful schema s (all ++ lines)
       lawful_anew = all_lawful schema s all (next_restart all) refl was.lawful (restart_may schema s all)
@@ -519,8 +529,11 @@ module _ (v : SiteValue) (up : Bool) (extent : Extent) (a : Accounts) (was : IsS
               run = (was.run, fits_anew);
               keeps = (rs, true, found.keeps, refl, plain_is);
               up_is = refl;
+              held = was.held ++ lines;
+              parts = parts_anew;
+              begins = begins_more v.gone was.held lines was.begins;
               clean = λ u. (refl, reached);
-              reaches = reach_all anew_extent (all ++ lines) reached;
+              reaches = reach_all anew_extent v.gone (was.held ++ lines) (all ++ lines) parts_anew reached;
               place = λ n is. let e : ◌≡◌ {A = Option ℕ} None (Some n) = is in absurd cc;
               in_doubt = refl;
               few = λ h. omega (arith, reached.few);
@@ -530,7 +543,7 @@ module _ (v : SiteValue) (up : Bool) (extent : Extent) (a : Accounts) (was : IsS
             applies = record {
               fits = fits_anew;
               entry = refl;
-              same = record { schema = refl; site = refl; fresh = refl; based = refl };
+              same = record { schema = refl; site = refl; fresh = refl; based = refl; gone = refl };
               failed = refl;
               logs = λ other rest is.
                   let same = (same_as other rest is).0 in
@@ -561,31 +574,43 @@ module _ (v : SiteValue) (up : Bool) (extent : Extent) (a : Accounts) (was : IsS
   abbrev next_extent : ℕ → ℕ → ℕ → Extent
   next_extent more size behind = record { count = extent.count + more + 1; length = size; behind = behind }
 
-  pub few_behind : (found_ : List Record) → AreBehind v.bytes extent.length found_ → extent.count + length (plain found_) ≡ length rs
-  few_behind found_ behind = count_more extent all was.reaches found_
-      (behind_is extent v.bytes all was.rest was.log was.reaches found_ behind)
+  -- what the medium holds is a log of what is held
+  pub held_log : {bytes : List ℕ} → v.bytes ≡ all_bytes v.gone bytes → IsLog bytes was.held was.rest
+  held_log {bytes = bytes} is =
+      without_gone v.gone was.held bytes was.rest
+      (subst (λ (x : List Record). IsLog (all_bytes v.gone bytes) x was.rest) was.parts
+      (subst (λ (b : List ℕ). IsLog b all was.rest) is was.log))
 
-  pub ends_restarted : (standing : Standing) (found_ : List Record) (epoch turns size behind_ : ℕ) (b : Accounts) (bytes : List ℕ)
+  stands_behind : {old : List ℕ} → v.bytes ≡ all_bytes v.gone old → (found_ : List Record) → AreBehind old extent.length found_
+      → found_ ≡ was.reaches.behind
+  stands_behind {old = old} is found_ behind = behind_is extent old v.gone was.held was.rest (held_log is) was.reaches found_ behind
+
+  pub few_behind : {old : List ℕ} → v.bytes ≡ all_bytes v.gone old → (found_ : List Record) → AreBehind old extent.length found_
+      → extent.count + length (plain found_) ≡ length rs
+  few_behind is found_ behind = count_more extent v.gone was.held all was.parts was.reaches found_ (stands_behind is found_ behind)
+
+  pub ends_restarted : (standing : Standing) (found_ : List Record) (epoch turns size behind_ : ℕ) (b : Accounts) (old bytes : List ℕ)
       (failed : ℕ) (left : Option Mishap) (r : Reply) (more : ℕ) (h : List Entry)
-      → IsStandingFor schema s all standing → StandsOver schema s all epoch turns size was.rest bytes v.foretold left v.failed failed
-      → AreBehind v.bytes extent.length found_
+      → v.bytes ≡ all_bytes v.gone old
+      → IsStandingFor schema s all standing → StandsOver schema s was.held all epoch turns size was.rest bytes v.foretold left v.failed failed
+      → AreBehind old extent.length found_
       → TakesIn schema standing (records.Restart epoch) true b.standing → b.journal ≡ [] → b.last ≡ 0
       → r ≡ Restarted epoch (found_by v.doubt found_) → more ≡ length (plain found_)
       → behind_ ≡ (if nat_le max_behind (turns + 1) then 0 else turns + 1) → h ≡ entry_of v Restart r ∷ v.history
       → Ends v Restart r (record v { history = h; bytes = bytes; failed = failed; foretold = left; doubt = None; replayed = turns }) true
       (next_extent more size behind_) b
-  ends_restarted standing found_ new turns size behind_ b bytes failed left r more h for_ over stand took open_ last_is_ said counted
-      behinds past =
+  ends_restarted standing found_ new turns size behind_ b old bytes failed left r more h whole for_ over stand took open_ last_is_ said
+      counted behinds past =
       let next = greatest rs + 1 in
-      let same = behind_is extent v.bytes all was.rest was.log was.reaches found_ stand in
-      let lasts : found_by v.doubt found_ ≡ last = last_is v.doubt extent all was.reaches found_ same was.place in
+      let same = stands_behind whole found_ stand in
+      let lasts : found_by v.doubt found_ ≡ last = last_is v.doubt extent v.gone was.held all was.parts was.reaches found_ same was.place in
       let new_is : new ≡ next = over.epoch_is ∙ ap (λ (n : ℕ). n + 1) (sym epochs) in
       let reply : r ≡ Restarted next last = said ∙ ap (λ (n : ℕ). Restarted n (found_by v.doubt found_)) new_is
       ∙ ap (λ (l : Last). Restarted next l) lasts in
       let after : h ≡ entry_of v Restart (Restarted next last) ∷ v.history =
       past ∙ ap (λ (x : Reply). entry_of v Restart x ∷ v.history) reply in
-      let many : extent.count + more + 1 ≡ length rs + 1 = omega (arith, counted, few_behind found_ stand) in
-      let reached = reach_next schema s all (next_restart all) refl (next_extent more size behind_) many over.size_is
+      let many : extent.count + more + 1 ≡ length rs + 1 = omega (arith, counted, few_behind whole found_ stand) in
+      let reached = reach_next schema s was.held all (next_restart all) refl (next_extent more size behind_) many over.size_is
       (behinds ∙ ap (λ (n : ℕ). if nat_le max_behind (n + 1) then 0 else n + 1) over.replayed) in
       let At : Reply → List Entry → ℕ → Type 0 =
       λ x o n. Ends v Restart x (record v { history = o; bytes = bytes; failed = n; foretold = left; doubt = None; replayed = turns }) true

@@ -6,6 +6,7 @@ use Rattle.std.proofs.lemmas.Bool.{false≢true, lt-ltb}
 use Rattle.std.proofs.lemmas.List.{append-nil, length-append}
 use Rattle.field_bounds.specs.Schema.{SchemaValue}
 use Rattle.field_bounds.specs.Owed.{max_epoch}
+use Rattle.field_bounds.specs.Limits.{IsSchema}
 use Rattle.kept_records.specs.declared.medium.Device.{Device}
 use Rattle.kept_records.specs.declared.medium.Mishap.{Mishap}
 use Rattle.kept_records.specs.declared.medium.Mishap.TheVariants.{Never, Append, Cut, Read}
@@ -26,9 +27,10 @@ use Rattle.log_replay.specs.declared.standing.Standing.{Standing}
 use Rattle.log_replay.specs.Standing.{Stands, IsStandingFor}
 use Rattle.log_replay.specs.Resuming.{MayFollowNext, IsEnd}
 use Rattle.site_step.specs.Site.{mishap_left}
-use Rattle.site_step.specs.Resuming.{IsLawfulLog, Leaves, next_restart, next_piece, IsReplayed, FailsOver, StandsOver, ResumesOver}
+use Rattle.site_step.specs.Resuming.{HoldsBehind, Leaves, next_restart, next_piece, all_bytes, IsReplayed, FailsOver, StandsOver, ResumesOver}
 use Rattle.site_step.specs.declared.site.restart.Resumed.{Resumed}
 use Rattle.site_step.proofs.Holding.{piece_fits, added_all, leaves_by, leaves_none}
+use Rattle.site_step.proofs.Prefixes.{log_of, last_behind, cuts_behind, cut_fate_behind}
 
 -- ---- lawful records break no rule
 
@@ -54,13 +56,38 @@ MayBeRead (Some (Append n)) = ⊥
 
 -- ---- the end that was read
 
-pub end_of : (schema : SchemaValue) (s : ℕ) (bytes : List ℕ) (held : IsLawfulLog schema s bytes) (read : ReadBack)
-    → AreLast bytes read.summary read.lines → IsEnd schema s held.records read
-end_of schema s bytes held read last = record {
-  rest = held.rest;
-  each = held.log.each;
-  lawful = held.lawful;
-  holds = last held.records held.rest held.log;
+pub end_of : (schema : SchemaValue) (s : ℕ) (gone held : List Record) (rest bytes : List ℕ) (holds : HoldsBehind schema s gone held rest bytes)
+    (read : ReadBack) → AreLast bytes read.summary read.lines → IsEnd schema s (gone ++ held) read
+end_of schema s gone held rest bytes holds read last = record {
+  rest = rest;
+  each = (log_of holds).each;
+  lawful = holds.lawful;
+  holds = last_behind gone held rest read.summary read.lines holds.begins (last held rest holds.log);
+}
+
+-- ---- what was replayed
+
+-- The bytes are a log of these lawful records of a site of the schema, which the standing is for; so many of them stand
+-- behind the last summary.
+pub record ReplaysAll (schema : SchemaValue) (s : ℕ) (rs : List Record) (rest : List ℕ) (standing : Standing) (turns : ℕ)
+    (bytes : List ℕ) : Type 0 where
+  pub limits : IsSchema schema
+  pub site_in : s < schema.sites
+  pub log : IsLog bytes rs rest
+  pub lawful : Lawful schema s rs
+  pub for_ : IsStandingFor schema s rs standing
+  pub turns_are : turns ≡ since_summary rs
+
+pub replays_all : {schema : SchemaValue} {s : ℕ} {gone held : List Record} {rest : List ℕ} {standing : Standing} {turns : ℕ} {bytes : List ℕ}
+    → IsReplayed schema s gone held rest standing turns bytes
+    → ReplaysAll schema s (gone ++ held) rest standing turns (all_bytes gone bytes)
+replays_all is = record {
+  limits = is.limits;
+  site_in = is.site_in;
+  log = log_of is.holds;
+  lawful = is.holds.lawful;
+  for_ = is.for_;
+  turns_are = is.turns_are;
 }
 
 -- ---- a record that may stand next
@@ -98,7 +125,7 @@ restart_next standing schema s rs for_ = ap (λ (n : ℕ). Restart (n + 1)) for_
 
 -- what is replayed leaves the record of a restart next, with the summary that is due
 module _ (old : List ℕ) (standing : Standing) (turns : ℕ) (schema : SchemaValue) (s : ℕ) (rs : List Record) (rest : List ℕ)
-    (is_replayed : IsReplayed schema s rs rest standing turns old) (below : standing.epoch < max_epoch) where
+    (is_replayed : ReplaysAll schema s rs rest standing turns old) (below : standing.epoch < max_epoch) where
   abbrev next_record : Record
   next_record = Restart (standing.epoch + 1)
 
@@ -158,14 +185,14 @@ read_stays log (Some Cut) left fate = fate.1
 read_stays log (Some (Append n)) left fate = fate.1
 
 -- a restart over a medium that reading left as it was
-pub resumes_from : (schema : SchemaValue) (s place : ℕ) (rs : List Record) (rest : List ℕ) (resumed : Resumed) (old mid new : List ℕ)
-    (foretold between left : Option Mishap) (before middle after : ℕ)
-    → mid ≡ old → between ≡ foretold → middle ≡ before → ResumesOver schema s place rs rest resumed mid new between left middle after
-    → ResumesOver schema s place rs rest resumed old new foretold left before after
-resumes_from schema s place rs rest resumed old mid new foretold between left before middle after bytes fate count over =
-    subst (λ (x : List ℕ). ResumesOver schema s place rs rest resumed x new foretold left before after) bytes
-    (subst (λ (x : Option Mishap). ResumesOver schema s place rs rest resumed mid new x left before after) fate
-    (subst (λ (x : ℕ). ResumesOver schema s place rs rest resumed mid new between left x after) count over))
+pub resumes_from : (schema : SchemaValue) (s place : ℕ) (gone held : List Record) (rest : List ℕ) (resumed : Resumed)
+    (old mid new : List ℕ) (foretold between left : Option Mishap) (before middle after : ℕ)
+    → mid ≡ old → between ≡ foretold → middle ≡ before → ResumesOver schema s place gone held rest resumed mid new between left middle after
+    → ResumesOver schema s place gone held rest resumed old new foretold left before after
+resumes_from schema s place gone held rest resumed old mid new foretold between left before middle after bytes fate count over =
+    subst (λ (x : List ℕ). ResumesOver schema s place gone held rest resumed x new foretold left before after) bytes
+    (subst (λ (x : Option Mishap). ResumesOver schema s place gone held rest resumed mid new x left before after) fate
+    (subst (λ (x : ℕ). ResumesOver schema s place gone held rest resumed mid new between left x after) count over))
 
 pub read_fate : (foretold left : Option Mishap) → ReadFate {T = ReadBack} foretold (Err faults.Device) left → (left ≡ mishap_left foretold)
     × (MayBeRead foretold)
@@ -176,9 +203,9 @@ read_fate (Some Cut) left fate = absurd cc
 read_fate (Some (Append n)) left fate = absurd cc
 
 module _ (old new : List ℕ) (foretold left : Option Mishap) (before after whole : ℕ) (standing : Standing) (turns : ℕ)
-    (due : Option SummaryValue)
-    (sized : IsWhole old whole) (below : standing.epoch < max_epoch) (unread : foretold ≡ Some Read → ⊥)
-    (schema : SchemaValue) (s : ℕ) (rs : List Record) (rest : List ℕ) (is_replayed : IsReplayed schema s rs rest standing turns old)
+    (due : Option SummaryValue) (below : standing.epoch < max_epoch) (unread : foretold ≡ Some Read → ⊥)
+    (schema : SchemaValue) (s : ℕ) (rs : List Record) (rest : List ℕ) (is_replayed : ReplaysAll schema s rs rest standing turns old)
+    (size_is : whole ≡ length (flat_map text rs))
     (dues : with_due (Restart (standing.epoch + 1)) due ≡ piece schema s rs (Restart (standing.epoch + 1))) where
   abbrev next : Record
   next = Restart (standing.epoch + 1)
@@ -191,9 +218,6 @@ module _ (old new : List ℕ) (foretold left : Option Mishap) (before after whol
 
   lawful : Lawful schema s rs
   lawful = is_replayed.lawful
-
-  size_is : whole ≡ length (flat_map text rs)
-  size_is = sized rs rest log
 
   some : greatest rs < max_epoch
   some = omega (arith, below, is_replayed.for_.for_.epoch)
@@ -252,24 +276,27 @@ module _ (old new : List ℕ) (foretold left : Option Mishap) (before after whol
       cut_by (b ∷ more) is = (fate.0 (omega (arith, is))).2
   mishap_struck (Some Read) device past fate = absurd (past refl)
 
-  long_is : (line : List ℕ) → line ≡ lines → whole + length line ≡ length (flat_map text (rs ++ next_piece schema s rs))
-  long_is line is =
-      let more : length (flat_map text (rs ++ next_piece schema s rs)) ≡ length (flat_map text rs)
+  -- so long are the texts of those that are held, with the lines that were added
+  long_is : (held : List Record) (held_whole : ℕ) (line : List ℕ) → held_whole ≡ length (flat_map text held) → line ≡ lines
+      → held_whole + length line ≡ length (flat_map text (held ++ next_piece schema s rs))
+  long_is held held_whole line held_is is =
+      let more : length (flat_map text (held ++ next_piece schema s rs)) ≡ length (flat_map text held)
       + length (flat_map text (next_piece schema s rs)) =
-      ap length (flat_map-append text rs (next_piece schema s rs))
-      ∙ length-append (flat_map text rs) (flat_map text (next_piece schema s rs)) in
+      ap length (flat_map-append text held (next_piece schema s rs))
+      ∙ length-append (flat_map text held) (flat_map text (next_piece schema s rs)) in
       let same : length line ≡ length (flat_map text (next_piece schema s rs)) =
       ap length is ∙ ap (λ (ps : List Record). length (flat_map text ps)) lines_are in
-      omega (arith, more, size_is, same)
+      omega (arith, more, held_is, same)
 
-  pub stands_over : (line : List ℕ) (size : ℕ) → line ≡ lines → size ≡ told_length (whole + length line)
+  pub stands_over : (held : List Record) (held_whole : ℕ) (line : List ℕ) (size : ℕ) → held_whole ≡ length (flat_map text held)
+      → line ≡ lines → size ≡ told_length (held_whole + length line)
       → CutsAndAppends {T = Unit {0}} {E = Device} (Ok tt) whole old lines new before after
       → CutAndAppendFate {E = Device} foretold whole old lines (Ok tt) new left
-      → StandsOver schema s rs (standing.epoch + 1) turns size rest new foretold left before after
-  stands_over line size line_is size_ added fate =
+      → StandsOver schema s held rs (standing.epoch + 1) turns size rest new foretold left before after
+  stands_over held held_whole line size held_is line_is size_ added fate =
       record {
         counts = added.1;
-        size_is = size_ ∙ ap told_length (long_is line line_is);
+        size_is = size_ ∙ ap told_length (long_is held held_whole line held_is line_is);
         replayed = is_replayed.turns_are;
         epoch_is = ap (λ (n : ℕ). n + 1) is_replayed.for_.for_.epoch;
         some = some;
@@ -322,3 +349,47 @@ module _ (old new : List ℕ) (foretold left : Option Mishap) (before after whol
         read = unread;
         replayed = λ n is. some_same turns n is ∙ is_replayed.turns_are;
       }
+
+-- what a restart did behind records that are gone
+module _ (old new : List ℕ) (foretold left : Option Mishap) (before after whole : ℕ) (standing : Standing) (turns : ℕ)
+    (due : Option SummaryValue)
+    (sized : IsWhole old whole) (below : standing.epoch < max_epoch) (unread : foretold ≡ Some Read → ⊥)
+    (schema : SchemaValue) (s : ℕ) (gone held : List Record) (rest : List ℕ)
+    (is_replayed : IsReplayed schema s gone held rest standing turns old)
+    (dues : with_due (Restart (standing.epoch + 1)) due ≡ piece schema s (gone ++ held) (Restart (standing.epoch + 1))) where
+  abbrev front : List ℕ
+  front = flat_map text gone
+
+  abbrev added_lines : List ℕ
+  added_lines = flat_map text (with_due (Restart (standing.epoch + 1)) due)
+
+  held_size : whole ≡ length (flat_map text held)
+  held_size = sized held rest is_replayed.holds.log
+
+  all_size : length front + whole ≡ length (flat_map text (gone ++ held))
+  all_size = omega (
+    arith,
+    held_size,
+    ap length (flat_map-append text gone held),
+    length-append (flat_map text gone) (flat_map text held),
+  )
+
+  pub stands_behind : (line : List ℕ) (size : ℕ) → line ≡ added_lines → size ≡ told_length (whole + length line)
+      → CutsAndAppends {T = Unit {0}} {E = Device} (Ok tt) whole old added_lines new before after
+      → CutAndAppendFate {E = Device} foretold whole old added_lines (Ok tt) new left
+      → StandsOver schema s held (gone ++ held) (standing.epoch + 1) turns size rest (all_bytes gone new) foretold left before after
+  stands_behind line size line_is size_ added fate =
+      stands_over (all_bytes gone old) (all_bytes gone new) foretold left before after (length front + whole) standing turns due below unread
+      schema s (gone ++ held) rest (replays_all is_replayed) all_size dues held whole line size held_size line_is size_
+      (cuts_behind front whole old added_lines new {T = Unit {0}} {E = Device} (Ok tt) before after added)
+      (cut_fate_behind front whole old added_lines new {E = Device} foretold (Ok tt) left fate)
+
+  pub fails_behind : (device : Device)
+      → CutsAndAppends {T = Unit {0}} (Err device) whole old added_lines new before after
+      → CutAndAppendFate foretold whole old added_lines (Err device) new left
+      → FailsOver schema s (gone ++ held) (Some turns) rest (all_bytes gone old) (all_bytes gone new) foretold left before after
+  fails_behind device added fate =
+      fails_over (all_bytes gone old) (all_bytes gone new) foretold left before after (length front + whole) standing turns due below unread
+      schema s (gone ++ held) rest (replays_all is_replayed) all_size dues device
+      (cuts_behind front whole old added_lines new {T = Unit {0}} (Err device) before after added)
+      (cut_fate_behind front whole old added_lines new foretold (Err device) left fate)

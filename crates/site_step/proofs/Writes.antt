@@ -48,6 +48,7 @@ use Rattle.site_step.specs.Resuming.{Leaves}
 use Rattle.site_step.specs.State.{StandsOn, IsSoundSite, ReachesAll, one_record_longer}
 use Rattle.site_step.proofs.Holding.{holds_all, same_told, plain_piece, piece_same, all_lawful, piece_fits, added_all, leaves_by, left_plain, left_holds}
 use Rattle.site_step.proofs.Extents.{reach_all, reach_extended, reach_more}
+use Rattle.site_step.proofs.Prefixes.{begins_more, parts_more}
 use Rattle.site_step.proofs.Settling.{answer_settles, writes_no_restart, refuses_over, noted_one, answer_fits, unsure_fits, whole_owed, unsure_owed, whole_under, unsure_under, answer_writes, unsure_writes, lines_one}
 use Rattle.site_step.proofs.Ends.{Ends, finds_of, finds_held, none_in_doubt}
 
@@ -140,10 +141,10 @@ module _ (v : SiteValue) (up : Bool) (extent : Extent) (a : Accounts) (was : IsS
   pub is_there : is_up base v.history ≡ true
   is_there = up_there at c no_restart none
 
-  tidy : (was.rest ≡ []) × ReachesAll extent was.records
+  tidy : (was.rest ≡ []) × ReachesAll extent was.held was.records
   tidy = was.clean (was.up_is ∙ is_there)
 
-  pub reached : ReachesAll extent was.records
+  pub reached : ReachesAll extent was.held was.records
   reached = tidy.1
 
   pub may : may_follow schema s all note ≡ true
@@ -225,8 +226,11 @@ module _ (v : SiteValue) (up : Bool) (extent : Extent) (a : Accounts) (was : IsS
         (known ∙ ap (λ (x : Mishap). Some x) is) fate in
         false≢true goes.0
 
-    reached_after : ReachesAll (one_record_longer extent (length (flat_map text lines))) (all ++ lines)
-    reached_after = reach_extended schema s all note plain_note extent reached
+    reached_after : ReachesAll (one_record_longer extent (length (flat_map text lines))) (was.held ++ lines) (all ++ lines)
+    reached_after = reach_extended schema s was.held all note plain_note extent reached
+
+    parts_after : all ++ lines ≡ v.gone ++ (was.held ++ lines)
+    parts_after = parts_more v.gone was.held all lines was.parts
 
     wrote : Ends v c (answer at c) then_ up (one_record_longer extent (length (flat_map text lines))) b
     wrote =
@@ -248,8 +252,12 @@ module _ (v : SiteValue) (up : Bool) (extent : Extent) (a : Accounts) (was : IsS
               plain_is ∙ more rs,
             );
             up_is = was.up_is ∙ sym (settles.up (is_up base v.history));
+            held = was.held ++ lines;
+            parts = parts_after;
+            begins = begins_more v.gone was.held lines was.begins;
             clean = λ u. (refl, reached_after);
-            reaches = reach_all (one_record_longer extent (length (flat_map text lines))) (all ++ lines) reached_after;
+            reaches = reach_all (one_record_longer extent (length (flat_map text lines))) v.gone (was.held ++ lines) (all ++ lines) parts_after
+                reached_after;
             place = λ n is. let e : ◌≡◌ {A = Option ℕ} None (Some n) = sym nothing ∙ is in absurd cc;
             in_doubt = up_doubt was.kept was.kept v.history (entry_of v c (answer at c)) rs (plain (all ++ lines)) v.doubt
                 (settles.counts (count_since is_unsure v.history))
@@ -267,7 +275,7 @@ module _ (v : SiteValue) (up : Bool) (extent : Extent) (a : Accounts) (was : IsS
           applies = record {
             fits = answer_fits at c no_restart none;
             entry = refl;
-            same = record { schema = refl; site = refl; fresh = refl; based = refl };
+            same = record { schema = refl; site = refl; fresh = refl; based = refl; gone = refl };
             failed = sym (settles.failed v.failed);
             logs = λ other rest is. record {
               stood = true;
@@ -375,8 +383,11 @@ module _ (v : SiteValue) (up : Bool) (extent : Extent) (a : Accounts) (was : IsS
               told_is ∙ left_over rs stood,
             );
             up_is = refl;
+            held = was.held ++ is.front;
+            parts = parts_more v.gone was.held all is.front was.parts;
+            begins = begins_more v.gone was.held is.front was.begins;
             clean = λ u. absurd (false≢true u);
-            reaches = reach_more extent all is.front is.first_ was.reaches;
+            reaches = reach_more extent v.gone was.held is.front is.first_ was.reaches;
             place = λ n e. let same : ◌≡◌ {A = Option ℕ} (Some extent.count) (Some n) = e in cc;
             in_doubt = (
               omega arith,
@@ -392,7 +403,7 @@ module _ (v : SiteValue) (up : Bool) (extent : Extent) (a : Accounts) (was : IsS
           applies = record {
             fits = unsure_fits at c told none;
             entry = refl;
-            same = record { schema = refl; site = refl; fresh = refl; based = refl };
+            same = record { schema = refl; site = refl; fresh = refl; based = refl; gone = refl };
             failed = refl;
             logs = λ other rest log.
                 let same = same_as other rest log in

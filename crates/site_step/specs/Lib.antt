@@ -5,3 +5,4 @@ pub mod State
 pub mod Resuming
 pub mod Opening
 pub mod Calls
+pub mod Shortening

@@ -11,7 +11,11 @@ use Rattle.kept_records.specs.Text.{text, IsRecord}
 use Rattle.kept_records.specs.Logs.{IsLog, IsBadLine}
 use Rattle.kept_records.specs.Stands.{Lawful, BreaksRule, plain}
 use Rattle.kept_records.specs.ReadingBack.{told_length}
+use Rattle.kept_records.specs.Summary.{SummaryValue, summary_record}
+use Rattle.kept_records.specs.Lines.{IsRecordAt}
+use Rattle.log_replay.specs.declared.standing.Standing.{Standing}
 use Rattle.log_replay.specs.Standing.{IsStandingFor}
+use Rattle.site_step.specs.State.{BeginsHeld}
 use Rattle.site_step.specs.Site.{mishap_left}
 use Rattle.site_step.specs.declared.site.opening.OpenFault.{OpenFault}
 use Rattle.site_step.specs.declared.site.opening.OpenFault.TheVariants.{Device, Line, NoMemory}
@@ -40,6 +44,36 @@ abbrev pub SparesLogs : SchemaValue → ℕ → List ℕ → OpenFault → Type 
 SparesLogs schema s bytes (Line n) = (rs : List Record) (rest : List ℕ) → IsLog bytes rs rest → Lawful schema s rs → ⊥
 SparesLogs schema s bytes Device = Unit {0}
 SparesLogs schema s bytes NoMemory = Unit {0}
+
+-- ---- behind records that are gone
+
+-- The bytes begin with the line of a summary.
+abbrev pub StartsWith : List ℕ → SummaryValue → Type 0
+StartsWith bytes base = (behind : List ℕ) × IsRecordAt bytes (summary_record base) behind
+
+-- A line of what is held is named only where it is the first bad one behind the records that are gone, whose lines aren't
+-- counted.
+abbrev pub TellsLineBehind : SchemaValue → ℕ → List Record → List ℕ → OpenFault → Type 0
+TellsLineBehind schema s gone held (Line n) = IsFirstBad schema s (flat_map text gone ++ held) (length gone + n)
+TellsLineBehind schema s gone held Device = Unit {0}
+TellsLineBehind schema s gone held NoMemory = Unit {0}
+
+-- No line is bad where what is held is a log of records that are lawful behind those that are gone.
+abbrev pub SparesLogsBehind : SchemaValue → ℕ → List Record → List ℕ → OpenFault → Type 0
+SparesLogsBehind schema s gone held (Line n) =
+    (rs : List Record) (rest : List ℕ) → IsLog held rs rest → Lawful schema s (gone ++ rs) → ⊥
+SparesLogsBehind schema s gone held Device = Unit {0}
+SparesLogsBehind schema s gone held NoMemory = Unit {0}
+
+-- Behind which records a site is opened: they are in range and lawful, the standing is for them, and where there are any, a
+-- summary is the first that is held.
+pub record BeginsBehind (schema : SchemaValue) (s : ℕ) (gone : List Record) (standing : Standing) (held : List ℕ) : Type 0 where
+  pub each : AllByRecursion IsRecord gone
+  pub lawful : Lawful schema s gone
+  pub stands : IsStandingFor schema s gone standing
+  pub begins : (rs : List Record) (rest : List ℕ) → IsLog held rs rest → BeginsHeld gone rs
+
+-- ---- what becomes of the medium
 
 -- The fault of a medium that isn't read.
 abbrev pub fault_of : MediumFault → OpenFault
@@ -72,12 +106,13 @@ FailsUnder Device foretold = MayStrikeRead foretold
 FailsUnder (Line n) foretold = Unit {0}
 FailsUnder NoMemory foretold = Unit {0}
 
--- What was found is the bytes' log, which is lawful, how far it reaches, and what its records stand for.
-pub record IsFound (schema : SchemaValue) (s : ℕ) (bytes : List ℕ) (found : Found) : Type 0 where
+-- What was found is the bytes' log, which is lawful behind the records that are gone, how far it reaches, and what all these
+-- records stand for.
+pub record IsFound (schema : SchemaValue) (s : ℕ) (gone : List Record) (bytes : List ℕ) (found : Found) : Type 0 where
   pub rest : List ℕ
   pub log : IsLog bytes found.based.list.items rest
-  pub lawful : Lawful schema s found.based.list.items
-  pub stands : IsStandingFor schema s found.based.list.items found.standing
+  pub lawful : Lawful schema s (gone ++ found.based.list.items)
+  pub stands : IsStandingFor schema s (gone ++ found.based.list.items) found.standing
   pub count : found.extent.count ≡ length (plain found.based.list.items)
   pub length_is : found.extent.length ≡ told_length (length (flat_map text found.based.list.items))
   pub behind : found.extent.behind ≡ 0

@@ -9,8 +9,8 @@ use Rattle.kept_records.specs.declared.medium.Mishap.{Mishap}
 use Rattle.kept_records.specs.declared.medium.Mishap.TheVariants.{Never, Append, Cut, Read}
 use Rattle.kept_records.specs.declared.record.Record.{Record}
 use Rattle.kept_records.specs.declared.record.Record.TheVariants.{Restart}
-use Rattle.std.specs.List.{flat_map}
-use Rattle.kept_records.specs.Text.{text}
+use Rattle.std.specs.List.{flat_map, AllByRecursion}
+use Rattle.kept_records.specs.Text.{text, IsRecord}
 use Rattle.kept_records.specs.Medium.{IsCutShort}
 use Rattle.kept_records.specs.Logs.{IsLog}
 use Rattle.kept_records.specs.Keeping.{starts_with_no_restart}
@@ -18,17 +18,18 @@ use Rattle.kept_records.specs.ReadingBack.{told_length, AreBehind}
 use Rattle.kept_records.specs.Stands.{greatest, Lawful, plain, since_summary, piece}
 use Rattle.log_replay.specs.declared.standing.Standing.{Standing as StandingValue}
 use Rattle.log_replay.specs.Standing.{IsStandingFor}
-use Rattle.site_step.specs.State.{starts_with_summary}
+use Rattle.site_step.specs.State.{starts_with_summary, BeginsHeld}
 use Rattle.site_step.specs.Site.{mishap_left}
 use Rattle.site_step.specs.declared.site.restart.Resumed.{Resumed}
 use Rattle.site_step.specs.declared.site.restart.Resumed.TheVariants.{Failed, NumbersFull, Standing}
 
--- The bytes are the texts of lawful records, and behind them a rest in which no line ends.
-pub record IsLawfulLog (schema : SchemaValue) (s : ℕ) (bytes : List ℕ) : Type 0 where
-  pub records : List Record
-  pub rest : List ℕ
-  pub log : IsLog bytes records rest
-  pub lawful : Lawful schema s records
+-- The bytes hold these records and behind them a rest in which no line ends; the records are lawful behind those that are
+-- gone, and where any are gone, a summary is the first that is held.
+pub record HoldsBehind (schema : SchemaValue) (s : ℕ) (gone held : List Record) (rest bytes : List ℕ) : Type 0 where
+  pub log : IsLog bytes held rest
+  pub each : AllByRecursion IsRecord gone
+  pub lawful : Lawful schema s (gone ++ held)
+  pub begins : BeginsHeld gone held
 
 -- The bytes are a log of these records and of a front of what a record adds behind them, which holds the record or nothing.
 pub record Leaves (schema : SchemaValue) (s : ℕ) (rs : List Record) (r : Record) (stood : Bool) (bytes : List ℕ) : Type 0 where
@@ -77,11 +78,11 @@ pub record FullOver (rs : List Record) (old bytes : List ℕ) (foretold left : O
   pub stays : left ≡ foretold
 
 -- A restart went well: its record stands behind those that there were, with the summary that is due, and so long are all
--- texts then. It replayed the records behind the last summary.
-pub record StandsOver (schema : SchemaValue) (s : ℕ) (rs : List Record) (epoch turns size : ℕ) (rest bytes : List ℕ)
+-- texts then that are held. It replayed the records behind the last summary.
+pub record StandsOver (schema : SchemaValue) (s : ℕ) (held rs : List Record) (epoch turns size : ℕ) (rest bytes : List ℕ)
     (foretold left : Option Mishap) (before after : ℕ) : Type 0 where
   pub counts : after ≡ before
-  pub size_is : size ≡ told_length (length (flat_map text (rs ++ next_piece schema s rs)))
+  pub size_is : size ≡ told_length (length (flat_map text (held ++ next_piece schema s rs)))
   pub replayed : turns ≡ since_summary rs
   pub epoch_is : epoch ≡ greatest rs + 1
   pub some : greatest rs < max_epoch
@@ -91,33 +92,38 @@ pub record StandsOver (schema : SchemaValue) (s : ℕ) (rs : List Record) (epoch
   pub cut : foretold ≡ Some Cut → rest ≡ []
   pub stays : left ≡ foretold
 
--- How a restart went over these records, some of which stand behind the place that was looked at.
-abbrev pub ResumesOver : SchemaValue → ℕ → ℕ → List Record → List ℕ → Resumed → List ℕ → List ℕ → Option Mishap → Option Mishap → ℕ → ℕ
-    → Type 0
-ResumesOver schema s place rs rest (Failed turns) old bytes foretold left before after =
-    FailsOver schema s rs turns rest old bytes foretold left before after
-ResumesOver schema s place rs rest NumbersFull old bytes foretold left before after = FullOver rs old bytes foretold left before after
-ResumesOver schema s place rs rest (Standing behind standing epoch turns size) old bytes foretold left before after =
-    StandsOver schema s rs epoch turns size rest bytes foretold left before after × IsStandingFor schema s rs standing
-    × AreBehind old place behind.items
+-- The texts of the records that are gone, and behind them these bytes.
+abbrev pub all_bytes : List Record → List ℕ → List ℕ
+all_bytes gone bytes = flat_map text gone ++ bytes
 
--- The bytes are a log of these lawful records of a site of the schema, which the standing is for; so many of them stand
--- behind the last summary.
-pub record IsReplayed (schema : SchemaValue) (s : ℕ) (rs : List Record) (rest : List ℕ) (standing : StandingValue) (turns : ℕ)
+-- How a restart went over the records that are gone and those that are held, some of which stand behind the place that was
+-- looked at.
+abbrev pub ResumesOver : SchemaValue → ℕ → ℕ → List Record → List Record → List ℕ → Resumed → List ℕ → List ℕ → Option Mishap
+    → Option Mishap → ℕ → ℕ → Type 0
+ResumesOver schema s place gone held rest (Failed turns) old bytes foretold left before after =
+    FailsOver schema s (gone ++ held) turns rest (all_bytes gone old) (all_bytes gone bytes) foretold left before after
+ResumesOver schema s place gone held rest NumbersFull old bytes foretold left before after =
+    FullOver (gone ++ held) (all_bytes gone old) (all_bytes gone bytes) foretold left before after
+ResumesOver schema s place gone held rest (Standing behind standing epoch turns size) old bytes foretold left before after =
+    StandsOver schema s held (gone ++ held) epoch turns size rest (all_bytes gone bytes) foretold left before after
+    × IsStandingFor schema s (gone ++ held) standing × AreBehind old place behind.items
+
+-- The bytes hold these records of a site of the schema, and the standing is for them and for those that are gone; so many of
+-- them stand behind the last summary.
+pub record IsReplayed (schema : SchemaValue) (s : ℕ) (gone held : List Record) (rest : List ℕ) (standing : StandingValue) (turns : ℕ)
     (bytes : List ℕ) : Type 0 where
   pub limits : IsSchema schema
   pub site_in : s < schema.sites
-  pub log : IsLog bytes rs rest
-  pub lawful : Lawful schema s rs
-  pub for_ : IsStandingFor schema s rs standing
-  pub turns_are : turns ≡ since_summary rs
+  pub holds : HoldsBehind schema s gone held rest bytes
+  pub for_ : IsStandingFor schema s (gone ++ held) standing
+  pub turns_are : turns ≡ since_summary (gone ++ held)
 
 -- How a restart went over the records that were replayed, where these were behind the place.
 abbrev pub ResumesAs : SchemaValue → StandingValue → ℕ → List Record → Resumed → List ℕ → List ℕ → Option Mishap → Option Mishap → ℕ → ℕ
     → Type 0
 ResumesAs schema standing turns found resumed old bytes foretold left before after =
-    (s place : ℕ) (rs : List Record) (rest : List ℕ) → IsReplayed schema s rs rest standing turns old → AreBehind old place found
-    → ResumesOver schema s place rs rest resumed old bytes foretold left before after
+    (s place : ℕ) (gone held : List Record) (rest : List ℕ) → IsReplayed schema s gone held rest standing turns old
+    → AreBehind old place found → ResumesOver schema s place gone held rest resumed old bytes foretold left before after
 
 -- ---- the record in doubt
 

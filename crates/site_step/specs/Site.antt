@@ -31,9 +31,10 @@ use Rattle.site_step.specs.Replaying.{Replays, downs_since}
 use Rattle.site_step.specs.Anew.{StandsAnew, ClosesAll}
 
 -- The schema and the site's number; whether the medium was empty when the site was opened, and the records that it held
--- then; the history, the newest entry first; what the medium holds now, how often it has failed, and the mishap that
+-- then; the history, the newest entry first; the bytes of the log, how often the medium has failed, and the mishap that
 -- strikes it next, where that is known; where an answer is in doubt, how many records stood before its own, summaries
--- left out; and how many records the last restart replayed that read the medium.
+-- left out; how many records the last restart replayed that read the medium; and the records whose texts are the first of
+-- these bytes and that the medium holds no longer.
 pub record SiteValue : Type 0 where
   pub schema : SchemaValue
   pub site : SiteNo
@@ -45,22 +46,31 @@ pub record SiteValue : Type 0 where
   pub foretold : Option Mishap
   pub doubt : Option ℕ
   pub replayed : ℕ
+  pub gone : List Record
 
--- A site's value, from its parts: the history is kept with the oldest entry first.
-abbrev pub value_of : SchemaValue → SiteNo → Bool → List Record → List Entry → List ℕ → ℕ → Option Mishap → Option ℕ → ℕ → SiteValue
-value_of schema site fresh based entries bytes failed foretold doubt replayed =
+-- A site's value, from its parts: the history is kept with the oldest entry first; and the log's bytes are the texts of the
+-- records that are gone, and behind them what the medium holds.
+abbrev pub value_of : SchemaValue → SiteNo → Bool → List Record → List Entry → List ℕ → ℕ → Option Mishap → Option ℕ → ℕ → List Record
+    → SiteValue
+value_of schema site fresh based entries held failed foretold doubt replayed gone =
     record {
       schema = schema;
       site = site;
       fresh = fresh;
       based = based;
       history = reverse entries;
-      bytes = bytes;
+      bytes = flat_map text gone ++ held;
       failed = failed;
       foretold = foretold;
       doubt = doubt;
       replayed = replayed;
+      gone = gone;
     }
+
+-- How many records stood before the one in doubt, where so many stand in front of those that the site counts.
+abbrev pub doubt_behind : ℕ → Option ℕ → Option ℕ
+doubt_behind uncounted None = None
+doubt_behind uncounted (Some n) = Some (uncounted + n)
 
 -- The base on which a site's history stands.
 abbrev pub base_of : SiteValue → Base
@@ -331,6 +341,7 @@ pub record IsSame (before later : SiteValue) : Type 0 where
   pub site : later.site ≡ before.site
   pub fresh : later.fresh ≡ before.fresh
   pub based : later.based ≡ before.based
+  pub gone : later.gone ≡ before.gone
 
 -- A site answered a command: the reply is owed after the history as it was, and the history has grown by exactly that
 -- command with that reply; the device failed exactly where the reply says so; the medium has grown by the entry's record

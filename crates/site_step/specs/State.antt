@@ -1,5 +1,5 @@
 -- What ties what a site holds, in memory and on its medium, to its history (this project).
-use Rattle.std.specs.Prelude.{◌≡◌, ℕ, ◌+◌, ◌<◌, ◌≤◌, List, [], ◌∷◌, ◌++◌, length, map, reverse, nat_le, if◌then◌else◌, Bool, true, false, Some}
+use Rattle.std.specs.Prelude.{◌≡◌, ℕ, ◌+◌, ◌<◌, ◌≤◌, ◌⊎◌, List, [], ◌∷◌, ◌++◌, length, map, reverse, nat_le, if◌then◌else◌, Bool, true, false, Some}
 use Rattle.std.specs.List.{flat_map}
 use Rattle.field_bounds.specs.declared.kind.Kind.{Kind}
 use Rattle.field_bounds.specs.declared.id.TxnId.{TxnId}
@@ -161,11 +161,15 @@ one_record_longer e size =
       behind = if nat_le max_behind (e.behind + 1) then 0 else e.behind + 1;
     }
 
--- These are all the records, summaries left out: how many they are, how long all texts are, and how many records stand
--- behind the last summary, which are fewer than 1,000.
-pub record ReachesAll (e : Extent) (rs : List Record) : Type 0 where
+-- The extent of a site that doesn't count so many of its first records: as if it counted them.
+abbrev pub counted_from : ℕ → Extent → Extent
+counted_from uncounted e = record { count = uncounted + e.count; length = e.length; behind = e.behind }
+
+-- These are all the records, of which the last ones are held: how many they are, summaries left out, how long the texts of
+-- those are that are held, and how many records stand behind the last summary, which are fewer than 1,000.
+pub record ReachesAll (e : Extent) (held rs : List Record) : Type 0 where
   pub count : e.count ≡ length (plain rs)
-  pub length_is : e.length ≡ told_length (length (flat_map text rs))
+  pub length_is : e.length ≡ told_length (length (flat_map text held))
   pub behind : e.behind ≡ since_summary rs
   pub few : since_summary rs < max_behind
 
@@ -174,20 +178,25 @@ abbrev pub starts_with_summary : List Record → Bool
 starts_with_summary [] = false
 starts_with_summary (r ∷ rs) = is_summary r
 
--- The first records are so many, summaries left out, and so long are their texts; no summary stands right behind them.
-pub record Reaches (e : Extent) (rs : List Record) : Type 0 where
+-- Records that are held stand behind those that are gone; where any are, a summary is the first that is held.
+abbrev pub BeginsHeld : List Record → List Record → Type 0
+BeginsHeld gone held = (gone ≡ []) ⊎ (starts_with_summary held ≡ true)
+
+-- The first records are so many, those that are gone with them, summaries left out; and so long are the texts of those of
+-- them that are held. No summary stands right behind them.
+pub record Reaches (e : Extent) (gone held : List Record) : Type 0 where
   pub before : List Record
   pub behind : List Record
-  pub all : rs ≡ before ++ behind
-  pub count : e.count ≡ length (plain before)
+  pub all : held ≡ before ++ behind
+  pub count : e.count ≡ length (plain (gone ++ before))
   pub length_is : e.length ≡ told_length (length (flat_map text before))
   pub first_ : starts_with_summary behind ≡ false
 
--- The history is a run of owed replies on its base, and the medium holds the records that it leaves, all of which are
--- lawful, summaries among them; behind them stands nothing while the site is up. It is known how many stood when the site
--- was last up, and where they end: these are all while it is up. Where an answer is in doubt, its record stands behind
--- them, if it stands. Few records stand behind the last summary, and few were replayed. While the site is up, it stands on
--- its history in memory too.
+-- The history is a run of owed replies on its base, and the log holds the records that it leaves, all of which are lawful,
+-- summaries among them; behind them stands nothing while the site is up. Those that aren't gone are held. It is known how
+-- many stood when the site was last up, and where they end: these are all while it is up. Where an answer is in doubt, its
+-- record stands behind them, if it stands. Few records stand behind the last summary, and few were replayed. While the site
+-- is up, it stands on its history in memory too.
 pub record IsSoundSite (v : SiteValue) (up : Bool) (extent : Extent) (a : Accounts) : Type 0 where
   pub ground : RestsOn v.schema v.site (base_of v) (plain v.based)
   pub records : List Record
@@ -198,8 +207,11 @@ pub record IsSoundSite (v : SiteValue) (up : Bool) (extent : Extent) (a : Accoun
   pub run : IsRun v.schema v.site.0 (base_of v) v.history
   pub keeps : Keeps v.schema v.site.0 (base_of v) (plain v.based) kept v.history (plain records)
   pub up_is : up ≡ is_up (base_of v) v.history
-  pub clean : up ≡ true → (rest ≡ []) × ReachesAll extent records
-  pub reaches : Reaches extent records
+  pub held : List Record
+  pub parts : records ≡ v.gone ++ held
+  pub begins : BeginsHeld v.gone held
+  pub clean : up ≡ true → (rest ≡ []) × ReachesAll extent held records
+  pub reaches : Reaches extent v.gone held
   pub place : (n : ℕ) → v.doubt ≡ Some n → n ≡ extent.count
   pub in_doubt : IsDoubt kept v.history (plain records) v.doubt
   pub few : since_summary v.based ≤ max_behind → since_summary records ≤ max_behind + downs_since v.history

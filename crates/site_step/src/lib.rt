@@ -4,8 +4,9 @@
 
 mod accounts;
 mod extent;
+mod front;
 mod laws;
 mod site;
 
 pub use laws::{no_line_is_dropped, no_needless_cut_or_failure, nothing_in_doubt};
-pub use site::{OpenFault, Site};
+pub use site::{OpenFault, Shortening, Site};

@@ -1,14 +1,18 @@
 //! A site and its step.
 
-ghost use Rattle.std.specs.Prelude.{◌≡◌, ◌<◌, ◌≤◌, ◌+◌, [], ℕ, reverse, Some, OnErr, IfOk, IfErr};
+ghost use Rattle.std.specs.Prelude.{◌≡◌, ◌<◌, ◌≤◌, ◌+◌, ◌++◌, List, [], ℕ, reverse, Some, OnErr, IfOk, IfErr};
+ghost use Rattle.std.specs.List.{flat_map};
 ghost use Rattle.field_bounds.specs.declared.entry.Last.{Last};
 ghost use Rattle.field_bounds.specs.declared.entry.Last.TheVariants.{Nothing};
 ghost use Rattle.field_bounds.specs.Owed.{interval_of, shares_of, is_up, IsRun};
 ghost use Rattle.site_step.specs.Site.{here, base_of, Applies, HoldsLog, Finds, Opens, foretold_by};
 ghost use Rattle.kept_records.specs.declared.medium.Mishap.TheVariants.{Read};
+ghost use Rattle.kept_records.specs.declared.record.Record.{Record};
 ghost use Rattle.kept_records.specs.Stands.{since_summary, max_behind};
+ghost use Rattle.kept_records.specs.Text.{text};
+ghost use Rattle.log_bases.specs.Bases.{IsPast};
 ghost use Rattle.site_step.specs.Replaying.{downs_before};
-ghost use Rattle.site_step.specs.Opening.{TellsLine, SparesLogs, FailsUnder, failed_at, foretold_at};
+ghost use Rattle.site_step.specs.Opening.{StartsWith, BeginsBehind, TellsLine, SparesLogs, TellsLineBehind, SparesLogsBehind, FailsUnder, failed_at, foretold_at};
 
 mod alone;
 mod committing;
@@ -19,24 +23,28 @@ mod keeping;
 mod ladder;
 mod opening;
 mod restart;
+mod shortening;
 mod tightening;
 
 use crate::accounts::Accounts;
 use crate::extent::Extent;
 use escrow_journal::Journal;
 use field_bounds::{Command, Entry, FieldNo, Kind, Reply, Schema, SiteNo, by_command};
-use history::{GhostHistory, History};
-use kept_records::{Medium, Mishap, Record, TornMedium};
+use history::{GhostHistory, History, Unkept};
+use kept_records::{Medium, Mishap, Record, Summary, TornMedium};
+use log_replay::Standing;
 pub use opening::OpenFault;
 use opening::{Found, read_base};
+pub use shortening::Shortening;
 use std::alloc::{AllocError, Global};
 use std::marker::Model;
 
 /// One site of a schema, over a medium that keeps what it answered. Contracts see the schema and
-/// the site's number; the records that the medium held when the site was opened, and whether it was
-/// empty then; the history, the newest entry first; the medium's bytes, its count of failures and
-/// the mishap foretold for it; where an answer is in doubt, how many records stood before its own,
-/// summaries left out; and how many records the last restart replayed.
+/// the site's number; the records that the log held when the site was opened, and whether it was
+/// empty then; the history, the newest entry first; the log's bytes, the medium's count of failures
+/// and the mishap foretold for it; where an answer is in doubt, how many records stood before its
+/// own, summaries left out; how many records the last restart replayed; and the records that are
+/// gone, the first of the log, which the medium holds no longer.
 ///
 /// Source: O'Neil 1986 for escrows and the test of a grant, Balegas and others 2015 for rights that
 /// a site holds and transfers, this project for what it keeps and its restarts.
@@ -46,8 +54,12 @@ pub struct Site<M: Medium, H: History<Entry> = Vec<Entry>> {
     number: SiteNo,
     medium: M,
     fresh: bool,
-    // What is in it only proofs see.
+    // What is in these three only proofs see. The records that the log held when the site was opened
+    // are those of `past`, which no medium held and the code doesn't count, and behind them `based`.
+    past: Unkept<Record>,
     based: GhostHistory<Record>,
+    // The first records of the log, whose texts the medium no longer holds.
+    gone: Unkept<Record>,
     history: H,
     up: bool,
     extent: Extent,
@@ -59,36 +71,46 @@ pub struct Site<M: Medium, H: History<Entry> = Vec<Entry>> {
 }
 
 impl<M: Medium, H: History<Entry>> Model for Site<M, H> {
-    ghost use Rattle.site_step.specs.Site.{SiteValue, value_of};
-    ghost use Rattle.site_step.specs.State.{IsSoundSite};
+    ghost use Rattle.std.specs.Prelude.{◌++◌, length};
+    ghost use Rattle.kept_records.specs.Stands.{plain};
+    ghost use Rattle.site_step.specs.Site.{SiteValue, value_of, doubt_behind};
+    ghost use Rattle.site_step.specs.State.{IsSoundSite, counted_from};
 
     ghost Value = { SiteValue };
 
-    ghost view = { λ s. value_of s.schema s.number s.fresh s.based.list.items (H.items s.history)
-        (M.bytes s.medium) (M.failed s.medium) (M.foretold s.medium) s.doubt s.replayed };
+    ghost view = { λ s. value_of s.schema s.number s.fresh (s.past.items ++ s.based.list.items)
+        (H.items s.history) (M.bytes s.medium) (M.failed s.medium) (M.foretold s.medium)
+        (doubt_behind (length (plain s.past.items)) s.doubt) s.replayed s.gone.items };
 
-    ghost invariant = { λ s. IsSoundSite (value_of s.schema s.number s.fresh s.based.list.items
-        (H.items s.history) (M.bytes s.medium) (M.failed s.medium)
-        (M.foretold s.medium) s.doubt s.replayed) s.up s.extent s.accounts };
+    ghost invariant = { λ s. IsSoundSite (value_of s.schema s.number s.fresh
+        (s.past.items ++ s.based.list.items) (H.items s.history) (M.bytes s.medium)
+        (M.failed s.medium) (M.foretold s.medium)
+        (doubt_behind (length (plain s.past.items)) s.doubt) s.replayed s.gone.items)
+        s.up (counted_from (length (plain s.past.items)) s.extent) s.accounts };
 }
 
 impl<M: Medium, H: History<Entry>> Site<M, H> {
-    /// Opens a site as `open` does, whose history goes where the type says: `Site::open_with` of a
-    /// `Site<M, GhostHistory<Entry>>` makes one that keeps no entry, and answers alike.
-    pub fn open_with(
+    /// Opens a site over a medium that holds its log behind the records that are gone, which the
+    /// standing is for.
+    fn open_over(
         alloc: Global,
         schema: Schema,
         site: SiteNo,
+        standing: Standing,
         medium: M,
     ) -> Result<Site<M, H>, (OpenFault, M)>
+        ghost past: { List Record }
         requires in_schema { site.0 < schema.sites }
-        ensures ok { IfOk result (λ made. Opens schema site (M.bytes medium)
+        requires begins { BeginsBehind schema site.0 past standing (M.bytes medium) }
+        ensures ok { IfOk result (λ made. Opens schema site (flat_map text past ++ M.bytes medium)
             (M.failed medium) made) }
+        ensures gone { IfOk result (λ made. made.gone ≡ past) }
         ensures mishap { IfOk result (λ made. made.foretold ≡ M.foretold medium) }
-        ensures nothing { IfOk result (λ made. M.bytes medium ≡ [] → Finds made 0 Nothing) }
-        ensures line { IfErr result (λ refused. TellsLine schema site.0
+        ensures nothing { IfOk result (λ made. flat_map text past ++ M.bytes medium ≡ []
+            → Finds made 0 Nothing) }
+        ensures line { IfErr result (λ refused. TellsLineBehind schema site.0 past
             (M.bytes medium) refused.0) }
-        ensures never { IfErr result (λ refused. SparesLogs schema site.0
+        ensures never { IfErr result (λ refused. SparesLogsBehind schema site.0 past
             (M.bytes medium) refused.0) }
         ensures bytes { IfErr result (λ refused. M.bytes refused.1 ≡ M.bytes medium) }
         ensures failed { IfErr result (λ refused. M.failed refused.1
@@ -99,7 +121,7 @@ impl<M: Medium, H: History<Entry>> Site<M, H> {
         ensures read { IfOk result (λ made. M.foretold medium ≡ Some Read → ⊥) }
     {
         let mut medium = medium;
-        match read_base(alloc, &schema, site, &mut medium) {
+        match read_base(alloc, &schema, site, standing, &mut medium) {
             Ok(
                 Found {
                     fresh,
@@ -112,7 +134,9 @@ impl<M: Medium, H: History<Entry>> Site<M, H> {
                 number: site,
                 medium,
                 fresh,
+                past: Unkept::told(),
                 based,
+                gone: Unkept::told(),
                 history: H::of(Vec::new(alloc)),
                 up: fresh,
                 extent,
@@ -126,6 +150,79 @@ impl<M: Medium, H: History<Entry>> Site<M, H> {
                 line: Vec::new(alloc),
             }),
             Err(fault) => Err((fault, medium)),
+        }
+    }
+
+    /// Opens a site as `open` does, whose history goes where the type says: `Site::open_with` of a
+    /// `Site<M, GhostHistory<Entry>>` makes one that keeps no entry, and answers alike.
+    pub fn open_with(
+        alloc: Global,
+        schema: Schema,
+        site: SiteNo,
+        medium: M,
+    ) -> Result<Site<M, H>, (OpenFault, M)>
+        requires in_schema { site.0 < schema.sites }
+        ensures ok { IfOk result (λ made. Opens schema site (M.bytes medium)
+            (M.failed medium) made) }
+        ensures mishap { IfOk result (λ made. made.foretold ≡ M.foretold medium) }
+        ensures whole { IfOk result (λ made. made.gone ≡ []) }
+        ensures nothing { IfOk result (λ made. M.bytes medium ≡ [] → Finds made 0 Nothing) }
+        ensures line { IfErr result (λ refused. TellsLine schema site.0
+            (M.bytes medium) refused.0) }
+        ensures never { IfErr result (λ refused. SparesLogs schema site.0
+            (M.bytes medium) refused.0) }
+        ensures bytes { IfErr result (λ refused. M.bytes refused.1 ≡ M.bytes medium) }
+        ensures failed { IfErr result (λ refused. M.failed refused.1
+            ≡ failed_at refused.0 (M.failed medium)) }
+        ensures foretold { IfErr result (λ refused. M.foretold refused.1
+            ≡ foretold_at refused.0 (M.foretold medium)) }
+        ensures device { IfErr result (λ refused. FailsUnder refused.0 (M.foretold medium)) }
+        ensures read { IfOk result (λ made. M.foretold medium ≡ Some Read → ⊥) }
+    {
+        match Standing::new(alloc, &schema, site) {
+            Ok(standing) => Site::open_over(alloc, schema, site, standing, medium),
+            Err(AllocError) => Err((OpenFault::NoMemory, medium)),
+        }
+    }
+
+    /// Opens a site over a medium that holds its log from a base on, its first line: what was in
+    /// front of it was let go. The site is down, and stands on all records once it is restarted,
+    /// those that are gone included. So it does for whichever past the base may stand behind, which
+    /// the caller names in its proof: `stand_on` of `log_bases` tells where there is one. Each line
+    /// behind the base is tested as `open` tests it, and the base's is line 1; the faults are those
+    /// of `open`. Costs what `open` costs.
+    ///
+    /// Source: this project.
+    pub fn open_from(
+        alloc: Global,
+        schema: Schema,
+        site: SiteNo,
+        base: &Summary,
+        medium: M,
+    ) -> Result<Site<M, H>, (OpenFault, M)>
+        ghost past: { List Record }
+        requires in_schema { site.0 < schema.sites }
+        requires past { IsPast schema site.0 base.now past }
+        requires first { StartsWith (M.bytes medium) base.now }
+        ensures ok { IfOk result (λ made. Opens schema site (flat_map text past ++ M.bytes medium)
+            (M.failed medium) made) }
+        ensures gone { IfOk result (λ made. made.gone ≡ past) }
+        ensures mishap { IfOk result (λ made. made.foretold ≡ M.foretold medium) }
+        ensures line { IfErr result (λ refused. TellsLineBehind schema site.0 past
+            (M.bytes medium) refused.0) }
+        ensures never { IfErr result (λ refused. SparesLogsBehind schema site.0 past
+            (M.bytes medium) refused.0) }
+        ensures bytes { IfErr result (λ refused. M.bytes refused.1 ≡ M.bytes medium) }
+        ensures failed { IfErr result (λ refused. M.failed refused.1
+            ≡ failed_at refused.0 (M.failed medium)) }
+        ensures foretold { IfErr result (λ refused. M.foretold refused.1
+            ≡ foretold_at refused.0 (M.foretold medium)) }
+        ensures device { IfErr result (λ refused. FailsUnder refused.0 (M.foretold medium)) }
+        ensures read { IfOk result (λ made. M.foretold medium ≡ Some Read → ⊥) }
+    {
+        match Standing::of_summary(alloc, &schema, site, base) {
+            Ok(standing) => Site::open_over(alloc, schema, site, standing, medium),
+            Err(AllocError) => Err((OpenFault::NoMemory, medium)),
         }
     }
 
@@ -249,6 +346,7 @@ impl<M: Medium> Site<M, Vec<Entry>> {
         ensures ok { IfOk result (λ made. Opens schema site (M.bytes medium)
             (M.failed medium) made) }
         ensures mishap { IfOk result (λ made. made.foretold ≡ M.foretold medium) }
+        ensures whole { IfOk result (λ made. made.gone ≡ []) }
         ensures nothing { IfOk result (λ made. M.bytes medium ≡ [] → Finds made 0 Nothing) }
         ensures line { IfErr result (λ refused. TellsLine schema site.0
             (M.bytes medium) refused.0) }

@@ -1,7 +1,9 @@
 //! Which site a site is, and on which base it stands.
 
-ghost use Rattle.std.specs.Prelude.{◌≡◌, ◌↔◌, IsTrue};
+ghost use Rattle.std.specs.Prelude.{◌≡◌, ◌++◌, ◌↔◌, IsTrue};
+ghost use Rattle.std.specs.List.{flat_map};
 ghost use Rattle.field_bounds.specs.Effects.{fresh};
+ghost use Rattle.kept_records.specs.Text.{text};
 ghost use Rattle.site_step.specs.Site.{base_of};
 
 use super::Site;
@@ -27,9 +29,10 @@ impl<M: Medium, H: History<Entry>> Site<M, H> {
         self.fresh
     }
 
-    /// The medium that the site stands on. Costs no memory.
+    /// The medium that the site stands on: it holds the log, but for the records that are gone, which
+    /// stand in front of the others. Costs no memory.
     pub fn medium(&self) -> &M
-        ensures bytes { M.bytes result.now ≡ self.now.bytes }
+        ensures bytes { self.now.bytes ≡ flat_map text self.now.gone ++ M.bytes result.now }
         ensures failed { M.failed result.now ≡ self.now.failed }
         ensures foretold { M.foretold result.now ≡ self.now.foretold }
     {

@@ -1,11 +1,12 @@
 //! What a site finds on the medium over which it is opened.
 
-ghost use Rattle.std.specs.Prelude.{◌≡◌, ◌<◌, ◌≤◌, ◌+◌, ◌^◌, [], ◌∷◌, ◌++◌, true, Some, length, IfOk, IfErr};
+ghost use Rattle.std.specs.Prelude.{◌≡◌, ◌<◌, ◌≤◌, ◌+◌, ◌^◌, List, [], ◌∷◌, ◌++◌, true, Some, length, IfOk, IfErr};
+ghost use Rattle.kept_records.specs.declared.record.Record.{Record};
 ghost use Rattle.kept_records.specs.Lent.{record_told};
 ghost use Rattle.kept_records.specs.declared.medium.MediumFault.TheVariants as faults;
 ghost use Rattle.kept_records.specs.declared.medium.Mishap.TheVariants.{Read};
 ghost use Rattle.site_step.specs.declared.site.opening.OpenFault.TheVariants.{Device, NoMemory};
-ghost use Rattle.site_step.specs.Opening.{TellsLine, SparesLogs, FailsUnder, IsFound, failed_at, foretold_at, fault_of};
+ghost use Rattle.site_step.specs.Opening.{BeginsBehind, TellsLineBehind, SparesLogsBehind, FailsUnder, IsFound, failed_at, foretold_at, fault_of};
 
 use crate::extent::Extent;
 use field_bounds::{Schema, SiteNo};
@@ -60,19 +61,23 @@ pub(super) struct Found {
     pub standing: Standing,
 }
 
-/// Reads what a medium holds, which stays as it is.
+/// Reads what a medium holds, which stays as it is, behind the records that the standing is for.
 pub(super) fn read_base<M: Medium>(
     alloc: Global,
     schema: &Schema,
     site: SiteNo,
+    standing: Standing,
     medium: &mut M,
 ) -> Result<Found, OpenFault>
-    requires site_in { site.0 < schema.now.sites }
-    ensures found { IfOk result (λ found. IsFound schema.now site.0 (M.bytes medium.old) found) }
+    ghost gone: { List Record }
+    requires begins { BeginsBehind schema.now site.0 gone standing (M.bytes medium.old) }
+    ensures found { IfOk result (λ found. IsFound schema.now site.0 gone
+        (M.bytes medium.old) found) }
     ensures fresh { IfOk result (λ found. found.fresh ≡ true → M.bytes medium.old ≡ []) }
     ensures empty { IfOk result (λ found. M.bytes medium.old ≡ [] → found.fresh ≡ true) }
-    ensures line { IfErr result (λ fault. TellsLine schema.now site.0 (M.bytes medium.old) fault) }
-    ensures never { IfErr result (λ fault. SparesLogs schema.now site.0
+    ensures line { IfErr result (λ fault. TellsLineBehind schema.now site.0 gone
+        (M.bytes medium.old) fault) }
+    ensures never { IfErr result (λ fault. SparesLogsBehind schema.now site.0 gone
         (M.bytes medium.old) fault) }
     ensures bytes { M.bytes medium.new ≡ M.bytes medium.old }
     ensures failed { IfErr result (λ fault. M.failed medium.new
@@ -85,7 +90,7 @@ pub(super) fn read_base<M: Medium>(
     ensures mishap { IfOk result (λ found. M.foretold medium.new ≡ M.foretold medium.old) }
 {
     let bytes = medium.read_all(alloc)?;
-    find(alloc, schema, site, &bytes)
+    find(alloc, schema, site, standing, &bytes)
 }
 
 /// Notes a record that is lent, and leaves the lines as they are. The list that only proofs see
@@ -108,18 +113,27 @@ fn note_lent(
     lines.give_back(next);
 }
 
-/// The records in the bytes, and what they stand for. Each is read from its line and taken in
-/// before the next, and no list of them is made.
-fn find(alloc: Global, schema: &Schema, site: SiteNo, bytes: &[u8]) -> Result<Found, OpenFault>
-    requires site_in { site.0 < schema.now.sites }
-    ensures found { IfOk result (λ found. IsFound schema.now site.0 bytes.now found) }
+/// The records in the bytes, and what they stand for behind the records that the standing is for.
+/// Each is read from its line and taken in before the next, and no list of them is made.
+fn find(
+    alloc: Global,
+    schema: &Schema,
+    _site: SiteNo,
+    standing: Standing,
+    bytes: &[u8],
+) -> Result<Found, OpenFault>
+    ghost gone: { List Record }
+    requires begins { BeginsBehind schema.now _site.0 gone standing bytes.now }
+    ensures found { IfOk result (λ found. IsFound schema.now _site.0 gone bytes.now found) }
     ensures fresh { IfOk result (λ found. found.fresh ≡ true → bytes.now ≡ []) }
     ensures empty { IfOk result (λ found. bytes.now ≡ [] → found.fresh ≡ true) }
-    ensures line { IfErr result (λ fault. TellsLine schema.now site.0 bytes.now fault) }
-    ensures never { IfErr result (λ fault. SparesLogs schema.now site.0 bytes.now fault) }
+    ensures line { IfErr result (λ fault. TellsLineBehind schema.now _site.0 gone
+        bytes.now fault) }
+    ensures never { IfErr result (λ fault. SparesLogsBehind schema.now _site.0 gone
+        bytes.now fault) }
     ensures device { IfErr result (λ fault. fault ≡ Device → ⊥) }
 {
-    let mut standing = Standing::new(alloc, schema, site)?;
+    let mut standing = standing;
     let mut based = GhostHistory::of(Vec::new(alloc));
     let mut number: u64 = 0;
     let mut count: usize = 0;

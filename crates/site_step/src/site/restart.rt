@@ -6,10 +6,9 @@ ghost use Rattle.field_bounds.specs.Limits.{IsSchema};
 ghost use Rattle.kept_records.specs.declared.medium.Mishap.TheVariants.{Read};
 ghost use Rattle.field_bounds.specs.declared.entry.Command.TheVariants as commands;
 ghost use Rattle.kept_records.specs.declared.record.Record.{Record};
-ghost use Rattle.kept_records.specs.Logs.{IsLog};
 ghost use Rattle.kept_records.specs.ReadingBack.{PartsAt, AreBehind, IsWhole};
 ghost use Rattle.site_step.specs.Site.{Applies};
-ghost use Rattle.site_step.specs.Resuming.{IsLawfulLog, IsReplayed, ResumesOver, ResumesAs, found_by};
+ghost use Rattle.site_step.specs.Resuming.{HoldsBehind, IsReplayed, ResumesOver, ResumesAs, found_by};
 
 use super::Site;
 use crate::extent::due_behind;
@@ -56,8 +55,9 @@ fn add_restart<M: Medium>(
     requires whole { IsWhole (M.bytes medium.old) log.whole }
     requires present { log.present ≡ length (M.bytes medium.old) }
     requires within { log.whole ≤ log.present }
-    requires replayed { (s : ℕ) × (rs : List Record) × (rest : List ℕ)
-        × IsReplayed schema.now s rs rest replay.standing replay.turns (M.bytes medium.old) }
+    requires replayed { (s : ℕ) × (gone : List Record) × (held : List Record) × (rest : List ℕ)
+        × IsReplayed schema.now s gone held rest replay.standing replay.turns
+        (M.bytes medium.old) }
     requires below { replay.standing.epoch < max_epoch }
     requires read { M.foretold medium.old ≡ Some Read → ⊥ }
     ensures resumes { IfOk result (λ resumed. ResumesAs schema.now replay.standing replay.turns
@@ -96,8 +96,9 @@ fn resume_over<M: Medium>(
     requires whole { IsWhole (M.bytes medium.old) log.whole }
     requires present { log.present ≡ length (M.bytes medium.old) }
     requires within { log.whole ≤ log.present }
-    requires replayed { (s : ℕ) × (rs : List Record) × (rest : List ℕ)
-        × IsReplayed schema.now s rs rest replay.standing replay.turns (M.bytes medium.old) }
+    requires replayed { (s : ℕ) × (gone : List Record) × (held : List Record) × (rest : List ℕ)
+        × IsReplayed schema.now s gone held rest replay.standing replay.turns
+        (M.bytes medium.old) }
     requires read { M.foretold medium.old ≡ Some Read → ⊥ }
     ensures resumes { IfOk result (λ resumed. ResumesAs schema.now replay.standing replay.turns
         log.behind.items resumed (M.bytes medium.old) (M.bytes medium.new) (M.foretold medium.old)
@@ -113,7 +114,8 @@ fn resume_over<M: Medium>(
 }
 
 /// Reads the medium, replays the records behind the last summary, cuts a torn end and adds the
-/// record of a restart. The records of its log before the place are known.
+/// record of a restart. The records of its log before the place are known. So it does behind
+/// whatever records are gone, where the medium holds a log from a summary on.
 fn resume<M: Medium>(
     alloc: Global,
     schema: &Schema,
@@ -124,11 +126,12 @@ fn resume<M: Medium>(
 ) -> Result<Resumed, AllocError>
     requires site_in { site.0 < schema.now.sites }
     requires limits { IsSchema schema.now }
-    requires log { IsLawfulLog schema.now site.0 (M.bytes medium.old) }
+    requires log { (gone : List Record) × (held : List Record) × (rest : List ℕ)
+        × HoldsBehind schema.now site.0 gone held rest (M.bytes medium.old) }
     requires place { PartsAt (M.bytes medium.old) place }
-    ensures resumes { IfOk result (λ resumed. (rs : List Record) (rest : List ℕ)
-        → IsLog (M.bytes medium.old) rs rest →
-        ResumesOver schema.now site.0 place rs rest resumed (M.bytes medium.old)
+    ensures resumes { IfOk result (λ resumed. (gone held : List Record) (rest : List ℕ)
+        → HoldsBehind schema.now site.0 gone held rest (M.bytes medium.old) →
+        ResumesOver schema.now site.0 place gone held rest resumed (M.bytes medium.old)
         (M.bytes medium.new) (M.foretold medium.old) (M.foretold medium.new)
         (M.failed medium.old) (M.failed medium.new)) }
     ensures bytes { OnErr result (M.bytes medium.new ≡ M.bytes medium.old) }

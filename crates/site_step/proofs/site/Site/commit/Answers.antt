@@ -1,8 +1,9 @@
-use Rattle.std.proofs.Common.{rules, ◌≡◌, ◌<◌, ◌+◌, length, ap, sym, ◌∙◌, arith, false}
+use Rattle.std.proofs.Common.{rules, ◌≡◌, ◌<◌, ◌+◌, length, refl, ap, sym, ◌∙◌, arith, false}
 use Rattle.std.specs.Prelude.{nat_lt, nat_le}
 use Rattle.std.proofs.lemmas.List.{length-reverse}
 use Rattle.kept_records.specs.declared.record.Record.TheVariants as records
-use Rattle.kept_records.specs.Stands.{max_behind}
+use Rattle.kept_records.specs.Stands.{plain, max_behind}
+use Rattle.site_step.proofs.Extents.{longer_counted}
 use Rattle.kept_records.specs.Text.{text}
 use Rattle.site_step.proofs.Calls.{grew, commit_opened, commit_escrows, commit_count}
 use Rattle.site_step.proofs.Settling.{some_there}
@@ -53,7 +54,8 @@ extend-requires g c =
     record {
       few = omega (
         arith,
-        few_committed c.self.invariant c.self.view_is c.args.txn c.requires.unrefused c.unwrap-escrows.result.now are some,
+        few_committed c.self.invariant c.self.view_is c.args.txn c.requires.unrefused c.unwrap-escrows.result.now are some c.self.inside.past.items
+            c.self.inside.based.list.items c.self.inside.extent refl refl,
         length-reverse (g.H.History.items i.history),
         g.met.H.History.few i.history,
         i.based.counted,
@@ -69,8 +71,9 @@ invariant_of-self-in-Ok g c =
     let long : c.len.result ≡ length (text (records.Commit c.args.txn c.unwrap-escrows.result.now)) =
     omega (arith, c.len.ensures, c.append_commit.new.line.ok, ap length c.in_ok-append_commit.ensures.line) in
     (commits c.self.invariant c.self.view_is c.args.txn c.requires.unrefused c.unwrap-escrows.result.now are some undue
-    c.spend.ensures.spent (rw c.in-Ok.is at c.in_ok-append_commit.ensures.added) (rw c.in-Ok.is at c.in_ok-append_commit.ensures.fate)
-    (grew c.push_reserved.ensures.items c.in_ok-reserve.ensures.items) long c.extend.ensures.extended).sound
+    (g.M.Medium.bytes c.self.inside.medium) refl c.spend.ensures.spent (rw c.in-Ok.is at c.in_ok-append_commit.ensures.added) (rw c.in-Ok.is at c.in_ok-append_commit.ensures.fate)
+    (grew c.push_reserved.ensures.items c.in_ok-reserve.ensures.items) long
+    (longer_counted (length (plain c.self.inside.past.items)) c.len.result c.self.inside.extent c.extend.ensures.extended)).sound
 
 pub returns-in-Ok-clause-ok : goal.returns-in-Ok-clause-ok
 returns-in-Ok-clause-ok g c =
@@ -80,8 +83,9 @@ returns-in-Ok-clause-ok g c =
     let long : c.len.result ≡ length (text (records.Commit c.args.txn c.unwrap-escrows.result.now)) =
     omega (arith, c.len.ensures, c.append_commit.new.line.ok, ap length c.in_ok-append_commit.ensures.line) in
     (commits c.self.invariant c.self.view_is c.args.txn c.requires.unrefused c.unwrap-escrows.result.now are some undue
-    c.spend.ensures.spent (rw c.in-Ok.is at c.in_ok-append_commit.ensures.added) (rw c.in-Ok.is at c.in_ok-append_commit.ensures.fate)
-    (grew c.push_reserved.ensures.items c.in_ok-reserve.ensures.items) long c.extend.ensures.extended).applies
+    (g.M.Medium.bytes c.self.inside.medium) refl c.spend.ensures.spent (rw c.in-Ok.is at c.in_ok-append_commit.ensures.added) (rw c.in-Ok.is at c.in_ok-append_commit.ensures.fate)
+    (grew c.push_reserved.ensures.items c.in_ok-reserve.ensures.items) long
+    (longer_counted (length (plain c.self.inside.past.items)) c.len.result c.self.inside.extent c.extend.ensures.extended)).applies
 
 pub invariant_of-self-in-Err : goal.invariant_of-self-in-Err
 invariant_of-self-in-Err g c =
@@ -89,7 +93,7 @@ invariant_of-self-in-Err g c =
     let are = rw c.unwrap-escrows.ensures at c.escrows.ensures.value in
     let undue : nat_le max_behind (c.self.inside.extent.behind + 1) ≡ false = sym c.is_due.ensures.value ∙ c.if-is_due.false in
     (commit_unsure c.self.invariant c.self.view_is c.args.txn c.requires.unrefused c.unwrap-escrows.result.now are some undue
-    c.in-Err.field-0 (rw c.in-Err.is at c.in_ok-append_commit.ensures.added) (rw c.in-Err.is at c.in_ok-append_commit.ensures.fate)
+    c.in-Err.field-0 (g.M.Medium.bytes c.self.inside.medium) refl (rw c.in-Err.is at c.in_ok-append_commit.ensures.added) (rw c.in-Err.is at c.in_ok-append_commit.ensures.fate)
     (grew c.push_reserved-in-Err.ensures.items c.in_ok-reserve.ensures.items)).sound
 
 pub returns-in-Err-clause-ok : goal.returns-in-Err-clause-ok
@@ -98,5 +102,5 @@ returns-in-Err-clause-ok g c =
     let are = rw c.unwrap-escrows.ensures at c.escrows.ensures.value in
     let undue : nat_le max_behind (c.self.inside.extent.behind + 1) ≡ false = sym c.is_due.ensures.value ∙ c.if-is_due.false in
     (commit_unsure c.self.invariant c.self.view_is c.args.txn c.requires.unrefused c.unwrap-escrows.result.now are some undue
-    c.in-Err.field-0 (rw c.in-Err.is at c.in_ok-append_commit.ensures.added) (rw c.in-Err.is at c.in_ok-append_commit.ensures.fate)
+    c.in-Err.field-0 (g.M.Medium.bytes c.self.inside.medium) refl (rw c.in-Err.is at c.in_ok-append_commit.ensures.added) (rw c.in-Err.is at c.in_ok-append_commit.ensures.fate)
     (grew c.push_reserved-in-Err.ensures.items c.in_ok-reserve.ensures.items)).applies

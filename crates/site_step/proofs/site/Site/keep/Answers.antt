@@ -1,7 +1,8 @@
-use Rattle.std.proofs.Common.{◌≡◌, ◌+◌, length, ap, sym, ◌∙◌, arith, false}
+use Rattle.std.proofs.Common.{◌≡◌, ◌+◌, length, refl, ap, sym, ◌∙◌, arith, false}
 use Rattle.std.specs.Prelude.{nat_le}
 use Rattle.std.proofs.lemmas.List.{length-reverse}
-use Rattle.kept_records.specs.Stands.{max_behind}
+use Rattle.kept_records.specs.Stands.{plain, max_behind}
+use Rattle.site_step.proofs.Extents.{longer_counted}
 use Rattle.kept_records.specs.Text.{text}
 use Rattle.site_step.proofs.Alone.{wrote_alone, unsure_alone}
 use Rattle.site_step.proofs.Calls.{grew, record_fits, can_write, few_written}
@@ -26,7 +27,8 @@ extend-requires g c =
     record {
       few = omega (
         arith,
-        few_written c.self.invariant c.self.view_is c.args.command c.requires.unrefused c.requires.told,
+        few_written c.self.invariant c.self.view_is c.args.command c.requires.unrefused c.requires.told c.self.inside.past.items
+            c.self.inside.based.list.items c.self.inside.extent refl refl,
         length-reverse (g.H.History.items i.history),
         g.met.H.History.few i.history,
         i.based.counted,
@@ -40,9 +42,10 @@ invariant_of-self-in-Ok g c =
     let long : c.len.result ≡ length (text c.args.kept.now) =
     omega (arith, c.len.ensures, c.append_record.new.line.ok, ap length c.in_ok-append_record.ensures.line) in
     (wrote_alone c.self.invariant c.self.view_is c.args.command c.requires.unrefused c.requires.told c.args.kept.now c.requires.kept undue
-    c.args.reply c.requires.owed c.carry_out.ensures.took c.carry_out.ensures.journal c.carry_out.ensures.last
+    c.args.reply (g.M.Medium.bytes c.self.inside.medium) c.requires.owed refl c.carry_out.ensures.took c.carry_out.ensures.journal c.carry_out.ensures.last
     (rw c.in-Ok.is at c.in_ok-append_record.ensures.added) (rw c.in-Ok.is at c.in_ok-append_record.ensures.fate)
-    (grew c.push_reserved.ensures.items c.in_ok-reserve.ensures.items) long c.extend.ensures.extended).sound
+    (grew c.push_reserved.ensures.items c.in_ok-reserve.ensures.items) long
+    (longer_counted (length (plain c.self.inside.past.items)) c.len.result c.self.inside.extent c.extend.ensures.extended)).sound
 
 pub returns-in-Ok-clause-ok : goal.returns-in-Ok-clause-ok
 returns-in-Ok-clause-ok g c =
@@ -50,15 +53,16 @@ returns-in-Ok-clause-ok g c =
     let long : c.len.result ≡ length (text c.args.kept.now) =
     omega (arith, c.len.ensures, c.append_record.new.line.ok, ap length c.in_ok-append_record.ensures.line) in
     (wrote_alone c.self.invariant c.self.view_is c.args.command c.requires.unrefused c.requires.told c.args.kept.now c.requires.kept undue
-    c.args.reply c.requires.owed c.carry_out.ensures.took c.carry_out.ensures.journal c.carry_out.ensures.last
+    c.args.reply (g.M.Medium.bytes c.self.inside.medium) c.requires.owed refl c.carry_out.ensures.took c.carry_out.ensures.journal c.carry_out.ensures.last
     (rw c.in-Ok.is at c.in_ok-append_record.ensures.added) (rw c.in-Ok.is at c.in_ok-append_record.ensures.fate)
-    (grew c.push_reserved.ensures.items c.in_ok-reserve.ensures.items) long c.extend.ensures.extended).applies
+    (grew c.push_reserved.ensures.items c.in_ok-reserve.ensures.items) long
+    (longer_counted (length (plain c.self.inside.past.items)) c.len.result c.self.inside.extent c.extend.ensures.extended)).applies
 
 pub invariant_of-self-in-Err : goal.invariant_of-self-in-Err
 invariant_of-self-in-Err g c =
     let undue : nat_le max_behind (c.self.inside.extent.behind + 1) ≡ false = sym c.is_due.ensures.value ∙ c.if-is_due.false in
     (unsure_alone c.self.invariant c.self.view_is c.args.command c.requires.unrefused c.requires.told c.args.kept.now c.requires.kept undue
-    c.in-Err.field-0
+    c.in-Err.field-0 (g.M.Medium.bytes c.self.inside.medium) refl
     (rw c.in-Err.is at c.in_ok-append_record.ensures.added) (rw c.in-Err.is at c.in_ok-append_record.ensures.fate)
     (grew c.push_reserved-in-Err.ensures.items c.in_ok-reserve.ensures.items)).sound
 
@@ -66,6 +70,6 @@ pub returns-in-Err-clause-ok : goal.returns-in-Err-clause-ok
 returns-in-Err-clause-ok g c =
     let undue : nat_le max_behind (c.self.inside.extent.behind + 1) ≡ false = sym c.is_due.ensures.value ∙ c.if-is_due.false in
     (unsure_alone c.self.invariant c.self.view_is c.args.command c.requires.unrefused c.requires.told c.args.kept.now c.requires.kept undue
-    c.in-Err.field-0
+    c.in-Err.field-0 (g.M.Medium.bytes c.self.inside.medium) refl
     (rw c.in-Err.is at c.in_ok-append_record.ensures.added) (rw c.in-Err.is at c.in_ok-append_record.ensures.fate)
     (grew c.push_reserved-in-Err.ensures.items c.in_ok-reserve.ensures.items)).applies

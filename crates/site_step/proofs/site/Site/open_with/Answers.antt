@@ -1,19 +1,26 @@
-use Rattle.std.proofs.Common.{subst, ◌∙◌}
-use Rattle.field_bounds.specs.Schema.{SchemaValue}
-use Rattle.field_bounds.specs.Limits.{IsSchema}
-use Rattle.site_step.proofs.Opens.{opens_sound, opens_finds}
+use Rattle.std.proofs.Common.{refl, inl}
+use Rattle.std.proofs.lemmas.Result.{IfErr-weaker}
+use Rattle.site_step.proofs.Fronts.{tells_first, spares_first}
 use Rattle.site_step.proofs.site.Site.open_with.Goals as goal
 
-pub invariant_of-result : goal.invariant_of-result
-invariant_of-result g c =
-    let found = c.in-Ok.field-0 in
-    let limits = subst (λ (x : SchemaValue). IsSchema x) c.schema.view_is c.schema.invariant in
-    opens_sound c.args.schema c.args.site found c.in-Ok.ensures.found c.in-Ok.ensures.bytes c.requires.in_schema
-    limits _ _ found.fresh (c.of.ensures.items ∙ c.new.ensures.items) c.new-in-Ok.ensures.empty c.in-Ok.ensures.fresh
+pub open_over-requires : goal.open_over-requires
+open_over-requires g c = λ κs below. (
+  below.0,
+  (
+    below.1,
+    (
+      c.requires.in_schema,
+      record { each = tt; lawful = tt; stands = c.in-Ok.ensures.nothing; begins = λ rs rest log. inl refl },
+    ),
+  ),
+)
 
-pub returns-in-Ok-clause-nothing : goal.returns-in-Ok-clause-nothing
-returns-in-Ok-clause-nothing g c = λ empty.
-    let found = c.in-Ok.field-0 in
-    let limits = subst (λ (x : SchemaValue). IsSchema x) c.schema.view_is c.schema.invariant in
-    opens_finds c.args.schema c.args.site found c.in-Ok.ensures.found c.in-Ok.ensures.bytes c.requires.in_schema
-    limits _ _ found.fresh (c.of.ensures.items ∙ c.new.ensures.items) empty
+pub returns-in-Ok-clause-line : goal.returns-in-Ok-clause-line
+returns-in-Ok-clause-line g c =
+    IfErr-weaker c.open_over.result _ _
+    (λ refused tells. tells_first c.args.schema c.args.site.0 (g.M.Medium.bytes c.args.medium) refused.0 tells) c.open_over.ensures.line
+
+pub returns-in-Ok-clause-never : goal.returns-in-Ok-clause-never
+returns-in-Ok-clause-never g c =
+    IfErr-weaker c.open_over.result _ _
+    (λ refused spares. spares_first c.args.schema c.args.site.0 (g.M.Medium.bytes c.args.medium) refused.0 spares) c.open_over.ensures.never

@@ -4,7 +4,8 @@ use Rattle.site_step.proofs.Fronts.{HasRead}
 use Rattle.site_step.proofs.site.opening.find.Given as goal
 
 abbrev pub invariant-loop-of-by_line : goal.invariant-loop-of-by_line
-invariant-loop-of-by_line l = HasRead l.fn.schema l.fn.site.0 l.bytes l.based.list.items l.number l.count l.standing l.lines.left
+invariant-loop-of-by_line g l =
+    HasRead l.fn.schema l.fn._site.0 g.gone l.bytes l.based.list.items l.number l.count l.standing l.lines.left
 
 abbrev pub decreases-loop-of-by_line : goal.decreases-loop-of-by_line
-decreases-loop-of-by_line l = length l.lines.left
+decreases-loop-of-by_line g l = length l.lines.left
