@@ -4,9 +4,9 @@ ghost use Rattle.std.specs.Prelude.{None};
 
 use crate::log_file::{FileFailed, LogFile};
 use crate::memory_file::FileCall;
-use std::fs::{File, Files, OpenOptions, TryLockError};
+use std::fs::{self, File, Files, OpenOptions, TryLockError};
 use std::io::{self, Write};
-use std::os::unix::fs::FileExt;
+use std::os::unix::fs::{FileExt, MetadataExt};
 use std::path::Path;
 use thiserror::Error;
 
@@ -91,7 +91,8 @@ pub enum Opening {
 /// Why a log wasn't opened.
 #[derive(Debug, Drop, Error)]
 pub enum OpenLogFault {
-    /// Another process has it locked, or another value of this one.
+    /// Another process has it locked, or another value of this one; or another file took the place of
+    /// the one that was opened before that was locked.
     #[error("the log is open elsewhere")]
     Busy,
     /// The system refused a call. Its kind is `AlreadyExists` where a new log is there already, and
@@ -102,6 +103,10 @@ pub enum OpenLogFault {
 
 /// Opens the log at a path, and locks it: who else opens it by this call is answered `Busy`. A
 /// process that ends, however it does, lets go of it.
+///
+/// A lock is on a file, and not on its path. So once it has the lock it looks whether the path still
+/// is that file: where whoever had the log locked put another file in its place meanwhile, which it
+/// had locked before, the answer is `Busy` too.
 ///
 /// The file is synced before it is read, and so is its folder, so that a new file is found after a
 /// stop of the machine. Where a sync of an earlier process failed, the system may hold pages in
@@ -121,6 +126,9 @@ pub fn open_log<R: Files<File = File>>(
         Err(TryLockError::WouldBlock) => return Err(OpenLogFault::Busy),
         Err(TryLockError::Error(fault)) => return Err(OpenLogFault::System(fault)),
     }
+    if !is_at(rt, path, &file)? {
+        return Err(OpenLogFault::Busy);
+    }
     file.sync_all()?;
     File::open(rt, folder_of(path))?.sync_all()?;
     Ok(HostFile {
@@ -136,6 +144,13 @@ fn open_file<R: Files<File = File>>(rt: &R, path: &str, opening: Opening) -> io:
         .append(true)
         .create_new(opening == Opening::New)
         .open(rt, path)
+}
+
+/// Whether the file at a path is this one: of the same device, and of the same number there.
+fn is_at<R: Files<File = File>>(rt: &R, path: &str, file: &File) -> io::Result<bool> {
+    let there = fs::metadata(rt, path)?;
+    let own = file.metadata()?;
+    Ok(there.dev() == own.dev() && there.ino() == own.ino())
 }
 
 /// The folder in which a path lies.

@@ -2,6 +2,7 @@
 
 mod faults;
 mod host;
+mod replaced;
 mod sites;
 mod turns;
 

@@ -77,3 +77,26 @@ pub trait Replaceable: LogFile {
             → (Self.safe self.new ≡ Self.safe self.old)
             ⊎ (Self.safe self.new ≡ beside self.old)) };
 }
+
+/// A file that is lent: its owner has it back once the borrower is gone.
+impl<F: Replaceable> Replaceable for &mut F {
+    ghost beside = { λ f. F.beside f.now };
+
+    ghost beside_safe = { λ f. F.beside_safe f.now };
+
+    fn begin_beside(&mut self) -> Result<(), FileFailed> {
+        Replaceable::begin_beside(&mut **self)
+    }
+
+    fn write_beside(&mut self, piece: &[u8]) -> Result<usize, FileFailed> {
+        Replaceable::write_beside(&mut **self, piece)
+    }
+
+    fn sync_beside(&mut self) -> Result<(), FileFailed> {
+        Replaceable::sync_beside(&mut **self)
+    }
+
+    fn put_in_place(&mut self) -> Result<(), PutFault> {
+        Replaceable::put_in_place(&mut **self)
+    }
+}

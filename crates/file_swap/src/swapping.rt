@@ -1,6 +1,6 @@
 //! The steps in their order.
 
-ghost use Rattle.std.specs.Prelude.{◌≡◌, ◌≤◌, ◌⊎◌, length, take, IfErr, OnOk};
+ghost use Rattle.std.specs.Prelude.{◌≡◌, ◌≤◌, ◌⊎◌, ◌++◌, length, take, IfErr, OnOk};
 ghost use Rattle.std.specs.Io.KnownBytes.{append_known};
 ghost use Rattle.file_medium.specs.Copies.{IsCopyOf};
 ghost use Rattle.file_medium.specs.Files.{IsSpared};
@@ -26,23 +26,28 @@ fn write_all<F: Replaceable>(file: &mut F, piece: &[u8]) -> usize
     written
 }
 
-/// Puts a file that holds these bytes in the place of the file: begins it, writes it whole, syncs
-/// it, and only then puts it there. At Ok the file holds them, a stop of the machine leaves them,
-/// and no cut has left fewer. `Refused`: the file is as it was, whatever came of the new one.
-/// `Failed`: a stop of the machine leaves what was safe of the file, or these bytes, whole; the file
-/// isn't to be used any more. Costs a write of the bytes, two syncs, and no memory.
-pub fn put_anew<F: Replaceable>(file: &mut F, held: &[u8]) -> Result<(), PutFault>
-    ensures ok { OnOk result (IsCopyOf (F.bytes file.new) held.now
-        × IsCopyOf (F.safe file.new) held.now) }
-    ensures spared { OnOk result (IsSpared (length held.now) (F.least file.new)) }
+/// Puts a file that holds a head and these bytes behind it in the place of the file: begins it, writes
+/// it whole, syncs it, and only then puts it there. At Ok the file holds them, a stop of the machine
+/// leaves them, and no cut has left fewer. `Refused`: the file is as it was, whatever came of the new
+/// one. `Failed`: a stop of the machine leaves what was safe of the file, or the new one, whole; the
+/// file isn't to be used any more. Costs a write of the bytes, two syncs, and no memory.
+pub fn put_anew<F: Replaceable>(file: &mut F, head: &[u8], held: &[u8]) -> Result<(), PutFault>
+    ensures ok { OnOk result (IsCopyOf (F.bytes file.new) (head.now ++ held.now)
+        × IsCopyOf (F.safe file.new) (head.now ++ held.now)) }
+    ensures all_safe { OnOk result (F.safe file.new ≡ F.bytes file.new) }
+    ensures spared { OnOk result (IsSpared (length (head.now ++ held.now)) (F.least file.new)) }
     ensures refused { IfErr result (λ fault. fault ≡ PutFault.Refused
         → (F.bytes file.new ≡ F.bytes file.old)
         × (F.safe file.new ≡ F.safe file.old)
         × (F.least file.new ≡ F.least file.old)) }
     ensures failed { IfErr result (λ fault. fault ≡ PutFault.Failed
-        → (F.safe file.new ≡ F.safe file.old) ⊎ IsCopyOf (F.safe file.new) held.now) }
+        → (F.safe file.new ≡ F.safe file.old)
+        ⊎ IsCopyOf (F.safe file.new) (head.now ++ held.now)) }
 {
     if file.begin_beside().is_err() {
+        return Err(PutFault::Refused);
+    }
+    if write_all(file, head) < head.len() {
         return Err(PutFault::Refused);
     }
     if write_all(file, held) < held.len() {

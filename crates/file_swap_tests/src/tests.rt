@@ -6,6 +6,8 @@ use file_swap::*;
 use std::alloc::Global;
 use std::process::Abort;
 
+mod host;
+
 /// How the new file goes: how many bytes a write takes at most, how many it can hold, which of its
 /// calls fails, and what putting it in place comes to.
 #[derive(Clone, Copy)]
@@ -61,7 +63,7 @@ fn assert_left(
 ) {
     let mut files = files(alloc).expect(rt, "memory");
     set(&mut files, course);
-    assert_eq!(rt; put_anew(&mut files, b"newer"), came);
+    assert_eq!(rt; put_anew(&mut files, b"new", b"er"), came);
     assert_eq!(rt; files.file.bytes(), held.as_bytes());
     assert_eq!(rt; files.file.safe(), safe.as_bytes());
 }
@@ -136,13 +138,13 @@ fn the_file_goes_on_behind_the_new_bytes(rt: HostRuntime) {
             ..WELL
         },
     );
-    assert_eq!(rt; put_anew(&mut files, b"new"), REFUSED);
-    assert_eq!(rt; put_anew(&mut files, b"newer"), Ok(()));
+    assert_eq!(rt; put_anew(&mut files, b"n", b"ew"), REFUSED);
+    assert_eq!(rt; put_anew(&mut files, b"newer", b""), Ok(()));
     assert_eq!(rt; files.file.least(), 5);
     assert_eq!(rt; files.write(b"!"), Ok(1));
     assert_eq!(rt; files.file.bytes(), b"newer!".as_slice());
     assert_eq!(rt; files.file.safe(), b"newer".as_slice());
-    assert_eq!(rt; put_anew(&mut files, b""), Ok(()));
+    assert_eq!(rt; put_anew(&mut files, b"", b""), Ok(()));
     assert_eq!(rt; files.file.bytes().len(), 0);
     assert_eq!(rt; files.file.safe().len(), 0);
 }

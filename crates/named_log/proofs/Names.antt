@@ -1,13 +1,15 @@
 -- What becomes of the bytes behind a name, and of those that were compared with it (this project).
-use Rattle.std.proofs.Common.{◌≡◌, ◌≢◌, ◌≤◌, ◌<◌, ◌+◌, ◌-◌, ℕ, zero, suc, List, [], ◌∷◌, ◌++◌, length, take, drop, Bool, true, false, min, inl, inr, Option, None, Some, Result, Ok, Err, refl, sym, ap, subst, ◌∙◌, arith}
-use Rattle.std.proofs.lemmas.List.{drop-take, length-take, length-take-le, take_all}
+use Rattle.std.proofs.Common.{◌≡◌, ◌≢◌, ◌≤◌, ◌<◌, ◌+◌, ◌-◌, ℕ, zero, suc, List, [], ◌∷◌, ◌++◌, length, length-append, take, drop, true, false, min, inl, inr, Option, None, Some, Result, Ok, Err, refl, sym, ap, ◌∙◌, arith}
+use Rattle.std.proofs.lemmas.List.{drop-take, drop_at, length-take, take-append-drop, take_all, take_at}
 use Rattle.std.specs.Str.{bytes_eq}
 use Rattle.std.proofs.lemmas.Slice.Eq.{bytes_eq-Decides}
 use Rattle.std.proofs.lemmas.Bool.{cases_Bool}
 use lib.Seq.{take-add, take-take}
 use Rattle.std.specs.Prelude.{option_map}
 use Rattle.std.specs.Io.KnownBytes.{Keeps}
-use Rattle.file_medium.specs.Files.{AreThere, CutsTo, KeepsFront, LowersTo, ReadsAt, cut_known}
+use Rattle.file_medium.specs.Copies.{IsCopyOf}
+use Rattle.file_medium.specs.Files.{AreThere, CutsTo, IsSpared, KeepsFront, LowersTo, ReadsAt, cut_known}
+use Rattle.file_swap.specs.Heads.{joined}
 use Rattle.named_log.specs.Names.{behind, count_behind, BeginsWith, HasMet, StartsAs}
 
 -- A cut of the file is one of the log behind the name.
@@ -114,3 +116,28 @@ starts-all (Some xs) seen name all within met =
     let same : take (length name) xs ≡ name =
     ap (λ k. take k xs) (omega arith) ∙ met ∙ take_all seen name all in
     sym ((bytes_eq-Decides (take (length name) xs) name).1 same)
+
+-- ---- another file in the place of this one
+
+-- Of a name and bytes behind it, what stands behind the name are those bytes, and the front is the name.
+pub copy-behind : (known : Option (List ℕ)) (name held : List ℕ) → IsCopyOf known (name ++ held) → IsCopyOf (behind (length name) known) held
+copy-behind None name held copy = tt
+copy-behind (Some xs) name held copy = ap (drop (length name)) copy ∙ drop_at name held (length name) refl
+
+pub copy-name : (known : Option (List ℕ)) (name held : List ℕ) → IsCopyOf known (name ++ held) → IsCopyOf (cut_known (length name) known) name
+copy-name None name held copy = tt
+copy-name (Some xs) name held copy = ap (take (length name)) copy ∙ take_at name held (length name) refl
+
+pub copy-there : (known : Option (List ℕ)) (name held : List ℕ) → IsCopyOf known (name ++ held) → AreThere (length name) known
+copy-there None name held copy = tt
+copy-there (Some xs) name held copy = omega (arith, ap (length {A = ℕ}) copy, length-append name held)
+
+pub spared-behind : (known : Option ℕ) (name held : List ℕ) → IsSpared (length (name ++ held)) known
+    → IsSpared (length held) (count_behind (length name) known)
+spared-behind None name held spared = tt
+spared-behind (Some least) name held spared = omega (arith, spared, length-append name held)
+
+-- A name and what stands behind it are all of the file, however long the name was.
+pub joined-file : (known : Option (List ℕ)) (name : ℕ) → joined (cut_known name known) (behind name known) ≡ known
+joined-file None name = refl
+joined-file (Some xs) name = ap Some (take-append-drop name xs)

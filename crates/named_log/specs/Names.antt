@@ -1,6 +1,7 @@
 -- A file that begins with a name, and the log behind it (this project).
 use Rattle.std.specs.Prelude.{◌≡◌, ◌≢◌, ℕ, List, length, take, drop, ⊤, Bool, true, false, Option, None, Some, option_map, bytes_eq, ◌-◌}
 use Rattle.file_medium.specs.Files.{AreThere}
+use Rattle.file_swap.specs.Heads.{LeavesEither}
 
 -- The log behind a name as its callers see it: the bytes behind the name, those of them that are safe, each where it is
 -- known; the fewest of them that a cut has left, where that is; whether a sync has failed; how many bytes the name has; and the
@@ -21,10 +22,10 @@ behind name known = option_map (drop name) known
 abbrev pub count_behind : ℕ → Option ℕ → Option ℕ
 count_behind name known = option_map (λ count. count - name) known
 
--- What holds of every named log: a name's length of bytes is safe, and is there unless a sync has failed.
+-- What holds of every named log that isn't lost: a name's length of bytes is there, and is safe.
 pub record HasName (name : ℕ) (lost : Bool) (bytes safe : Option (List ℕ)) : Type 0 where
   pub there : lost ≡ false → AreThere name bytes
-  pub safe_too : AreThere name safe
+  pub safe_too : lost ≡ false → AreThere name safe
 
 -- The known bytes begin with the name exactly where that was told.
 abbrev pub StartsAs : Bool → Option (List ℕ) → List ℕ → Type 0
@@ -54,3 +55,9 @@ pub record Opens (file : Option (List ℕ)) (name : List ℕ) (log : LogBehind) 
 abbrev pub HasMet : Option (List ℕ) → ℕ → List ℕ → Type 0
 HasMet None seen name = ⊤
 HasMet (Some xs) seen name = take seen xs ≡ take seen name
+
+-- It isn't known which file is there, and the log is lost: a stop of the machine leaves what was safe behind the name that it had,
+-- or the new file, whole.
+pub record IsInDoubt (old new : LogBehind) (file : List ℕ) : Type 0 where
+  pub lost : new.lost ≡ true
+  pub left : LeavesEither old.name old.safe new.name new.safe file

@@ -1,14 +1,16 @@
 //! The log behind a name.
 
-ghost use Rattle.std.specs.Prelude.{◌≡◌, ◌≢◌, false, true, length, IfOk, IfErr, IsErr, OnOk, OnErr};
+ghost use Rattle.std.specs.Prelude.{◌≡◌, ◌≢◌, ◌++◌, false, true, length, Err, IfOk, IfErr, IsErr, OnOk, OnErr};
 ghost use Rattle.std.specs.Io.{ReadsAtMost, WritesAtMost};
 ghost use Rattle.std.specs.Io.KnownBytes.{Keeps};
-ghost use Rattle.file_medium.specs.Files.{AddsTo, AreThere, CutsTo, KeepsFront, LowersTo, ReadsAt};
-ghost use Rattle.named_log.specs.Names.{BeginsWith, IsNot, Opens, behind, count_behind};
+ghost use Rattle.file_medium.specs.Copies.{IsCopyOf};
+ghost use Rattle.file_medium.specs.Files.{AddsTo, AreThere, CutsTo, IsSpared, KeepsFront, LowersTo, ReadsAt, cut_known};
+ghost use Rattle.named_log.specs.Names.{BeginsWith, IsInDoubt, IsNot, Opens, behind, count_behind};
 ghost use Rattle.named_log.specs.declared.named_log.NameFault.TheVariants.{Device};
 
 use crate::naming::starts_with;
 use file_medium::{FileFailed, LogFile};
+use file_swap::{HeadedLog, PutFault, Replaceable, ReplaceableLog, put_anew};
 use std::marker::Model;
 use thiserror::Error;
 
@@ -35,11 +37,11 @@ impl From<FileFailed> for NameFault {
 /// law of `LogFile` wherever the file does, and so no call of it changes the name.
 ///
 /// A sync that failed is never forgotten: nothing is known of the file's bytes then, so each later
-/// write, cut and sync fails.
+/// write, cut and sync fails. So too where it isn't known whether another file has taken its place.
 ///
 /// Contracts see the bytes behind the name, those of them that are safe, and the fewest that a cut has
-/// left, where they are known; whether a sync has failed; and the name, as it stands safe in front of
-/// them. A call costs one of the file, and no memory. Source: this project.
+/// left, where they are known; whether a sync has failed, or such a put; and the name, as it stands
+/// safe in front of them. A call costs one of the file, and no memory. Source: this project.
 #[derive(Drop)]
 pub struct NamedLog<F: LogFile> {
     file: F,
@@ -112,6 +114,80 @@ impl<F: LogFile> NamedLog<F> {
                 lost: false,
             }),
             Err(fault) => Err((fault, file)),
+        }
+    }
+
+    /// The file, with the name in front of what the log was. Costs no memory.
+    pub fn into_file(self) -> F
+        ensures bytes { behind self.name_size (F.bytes result) ≡ self.bytes }
+        ensures safe { behind self.name_size (F.safe result) ≡ self.safe }
+        ensures least { count_behind self.name_size (F.least result) ≡ self.least }
+        ensures name { cut_known self.name_size (F.safe result) ≡ self.name }
+    {
+        self.file
+    }
+}
+
+impl<F: LogFile> HeadedLog for NamedLog<F> {
+    ghost head = { λ l. l.name };
+}
+
+impl<F: Replaceable> ReplaceableLog for NamedLog<F> {
+    fn replace(&mut self, head: &[u8], held: &[u8]) -> Result<(), PutFault> {
+        NamedLog::replace(self, head, held)
+    }
+}
+
+impl<F: Replaceable> NamedLog<F> {
+    /// Puts a new file in the place of the file: it begins with this name, and these bytes are its log.
+    /// At Ok that is the log, all of it safe, and a stop of the machine leaves it. `Refused`, as it is
+    /// always where a sync has failed before: the log is as it was. `Failed`: a stop of the machine
+    /// leaves what was safe of the old file, or the new one, whole, and the log is lost: from there on
+    /// each write, cut and sync fails. Costs a write of the name and the bytes, two syncs, and no
+    /// memory.
+    pub fn replace(&mut self, name: &[u8], held: &[u8]) -> Result<(), PutFault>
+        ensures bytes { OnOk result (IsCopyOf self.new.bytes held.now) }
+        ensures safe { OnOk result (IsCopyOf self.new.safe held.now) }
+        ensures all_safe { OnOk result (self.new.safe ≡ self.new.bytes) }
+        ensures name { OnOk result (IsCopyOf self.new.name name.now) }
+        ensures size { OnOk result (self.new.name_size ≡ length name.now) }
+        ensures least { OnOk result (IsSpared (length held.now) self.new.least) }
+        ensures sound { OnOk result (self.new.lost ≡ false) }
+        ensures refused { IfErr result (λ fault. fault ≡ PutFault.Refused → self.new ≡ self.old) }
+        ensures failed { IfErr result (λ fault. fault ≡ PutFault.Failed
+            → IsInDoubt self.old self.new (name.now ++ held.now)) }
+        ensures lost { self.old.lost ≡ true → result ≡ Err PutFault.Refused }
+    {
+        if !self.lost {
+            return self.put(name, held);
+        }
+        Err(PutFault::Refused)
+    }
+
+    // The same of a log that isn't lost.
+    fn put(&mut self, name: &[u8], held: &[u8]) -> Result<(), PutFault>
+        requires sound { self.old.lost ≡ false }
+        ensures bytes { OnOk result (IsCopyOf self.new.bytes held.now) }
+        ensures safe { OnOk result (IsCopyOf self.new.safe held.now) }
+        ensures all_safe { OnOk result (self.new.safe ≡ self.new.bytes) }
+        ensures name { OnOk result (IsCopyOf self.new.name name.now) }
+        ensures size { OnOk result (self.new.name_size ≡ length name.now) }
+        ensures least { OnOk result (IsSpared (length held.now) self.new.least) }
+        ensures sound { OnOk result (self.new.lost ≡ false) }
+        ensures refused { IfErr result (λ fault. fault ≡ PutFault.Refused → self.new ≡ self.old) }
+        ensures failed { IfErr result (λ fault. fault ≡ PutFault.Failed
+            → IsInDoubt self.old self.new (name.now ++ held.now)) }
+    {
+        match put_anew(&mut self.file, name, held) {
+            Ok(()) => {
+                self.name = name.len() as u64;
+                Ok(())
+            }
+            Err(PutFault::Refused) => Err(PutFault::Refused),
+            Err(PutFault::Failed) => {
+                self.lost = true;
+                Err(PutFault::Failed)
+            }
         }
     }
 }

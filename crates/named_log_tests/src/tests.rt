@@ -1,5 +1,7 @@
 //! Each expected answer is worked out by hand from the definitions.
 
+mod replacing;
+
 use file_medium::{FileCall, FileFailed, FileMishap, LogFile, MemoryFile, read_whole};
 use named_log::*;
 use std::alloc::Global;
@@ -73,6 +75,14 @@ fn another_name_is_refused(rt: HostRuntime) {
     ];
     let other = Some(NameFault::Other);
     assert_eq!(&rt; faults, [other, other, other, None]);
+}
+
+/// The file is given back with the name in front of the log.
+#[test]
+fn the_file_is_given_back(rt: HostRuntime) {
+    let file = file_of(&rt, rt.alloc(), b"log of 0\nR 1\n");
+    let log = NamedLog::open(file, NAME).ok().expect(&rt, "opened");
+    assert_eq!(rt; log.into_file().bytes(), b"log of 0\nR 1\n".as_slice());
 }
 
 /// Its next sync fails, and from there on each write, cut and sync.

@@ -115,7 +115,7 @@ cut-closed closed kept (Some text) behind =
 -- the file is closed too, where no call of it has failed
 pub file-closed : (closed : ℕ) (lost is_ended : Bool) (file safe : Option (List ℕ)) (records batch : List ℕ) (room opened : ℕ)
     → IsSealed closed lost is_ended file safe records batch room opened → lost ≡ false → AreClosed closed is_ended file
-file-closed closed lost is_ended file safe records batch room opened is sound = subst (AreClosed closed is_ended) (sym (is.is_safe sound)) is.is_closed
+file-closed closed lost is_ended file safe records batch room opened is sound = subst (AreClosed closed is_ended) (sym (is.is_safe sound)) (is.is_closed sound)
 
 -- an open batch that is some, and not the one that ends a world, is one of records
 pub open-records : (batch : List ℕ) → IsOpen batch → batch ≢ [] → batch ≢ end_batch → IsRecords batch
@@ -134,13 +134,13 @@ pub sealed-closed : (closed new_closed : ℕ) (lost is_ended : Bool) (file safe 
 sealed-closed closed new_closed lost is_ended file safe new new_safe records batch left room new_room opened is sound going one added synced none count =
     let to : new_safe ≡ append_known safe (sealed_batch batch) =
     synced ∙ added ∙ ap (λ k. append_known k (sealed_batch batch)) (is.is_safe sound) in
-    let before : AreClosed closed false safe = subst (λ e. AreClosed closed e safe) going is.is_closed in
+    let before : AreClosed closed false safe = subst (λ e. AreClosed closed e safe) going (is.is_closed sound) in
     let after : AreClosed new_closed false new_safe =
     subst (λ n. AreClosed n false new_safe) (sym count) (subst (AreClosed (closed + length batch) false) (sym to) (are_closed-push closed safe batch before one)) in
     let same : append_known (closed_of closed safe) batch ≡ closed_of new_closed new_safe =
     sym (ap (λ n. closed_of n new_safe) count ∙ ap (closed_of (closed + length batch)) to ∙ closed_of-push closed safe batch before one) in
     record {
-      is_closed = subst (λ e. AreClosed new_closed e new_safe) (sym going) after;
+      is_closed = λ _. subst (λ e. AreClosed new_closed e new_safe) (sym going) after;
       is_safe = λ _. sym synced;
       few = omega (arith, is.few, count);
       front = subst (λ k. IsFrontOf k records) same (front-push (closed_of closed safe) batch records is.front);
@@ -161,17 +161,18 @@ bytes-closed closed new_closed lost is_ended file safe new records batch left ro
     ∙ closed_of-push closed file batch before one
 
 -- what is seen of it then
-pub view-closed : (closed new_closed : ℕ) (lost is_ended : Bool) (file safe new new_safe : Option (List ℕ)) (records batch left : List ℕ) (room opened : ℕ) (least new_least : Option ℕ)
+pub view-closed : (closed new_closed : ℕ) (lost is_ended : Bool) (file safe new new_safe : Option (List ℕ)) (records batch left : List ℕ) (room opened : ℕ) (least new_least : Option ℕ) (head new_head : Option (List ℕ))
     → IsSealed closed lost is_ended file safe records batch room opened → lost ≡ false → is_ended ≡ false → IsRecords batch
     → new ≡ append_known file (sealed_batch batch) → new_safe ≡ new → left ≡ [] → new_closed ≡ closed + length batch → new_least ≡ least
-    → log_of new_closed lost is_ended new new_safe left opened new_least ≡ record (log_of closed lost is_ended file safe batch opened least) {
+    → log_of new_closed lost is_ended new new_safe left opened new_least new_head ≡ record (log_of closed lost is_ended file safe batch opened least head) {
       safe = append_known (closed_of closed file) batch;
       closed = closed + length batch;
       batch = [];
       file = append_known file (sealed_open batch);
       file_safe = new;
+      head = new_head;
     }
-view-closed closed new_closed lost is_ended file safe new new_safe records batch left room opened least new_least is sound going one added synced none count same_least =
+view-closed closed new_closed lost is_ended file safe new new_safe records batch left room opened least new_least head new_head is sound going one added synced none count same_least =
     let all = append_known (closed_of closed file) batch in
     let bytes : append_known (closed_of new_closed new) left ≡ all =
     bytes-closed closed new_closed lost is_ended file safe new records batch left room opened is sound going one added none count in
@@ -179,21 +180,21 @@ view-closed closed new_closed lost is_ended file safe new new_safe records batch
     ap (closed_of new_closed) synced ∙ sym (append_known-nil (closed_of new_closed new))
     ∙ ap (append_known (closed_of new_closed new)) (sym none) ∙ bytes in
     let more : new ≡ append_known file (sealed_open batch) = added ∙ ap (append_known file) (sym (sealed_open-some batch one)) in
-    ap (λ k. record { bytes = k; safe = closed_of new_closed new_safe; closed = new_closed; batch = left; is_lost = lost; is_ended = is_ended; file = new; file_safe = new_safe; opened = opened; file_least = new_least }) bytes
-    ∙ ap (λ k. record { bytes = all; safe = k; closed = new_closed; batch = left; is_lost = lost; is_ended = is_ended; file = new; file_safe = new_safe; opened = opened; file_least = new_least }) kept
-    ∙ ap (λ n. record { bytes = all; safe = all; closed = n; batch = left; is_lost = lost; is_ended = is_ended; file = new; file_safe = new_safe; opened = opened; file_least = new_least }) count
-    ∙ ap (λ l. record { bytes = all; safe = all; closed = closed + length batch; batch = l; is_lost = lost; is_ended = is_ended; file = new; file_safe = new_safe; opened = opened; file_least = new_least }) none
-    ∙ ap (λ k. record { bytes = all; safe = all; closed = closed + length batch; batch = []; is_lost = lost; is_ended = is_ended; file = new; file_safe = k; opened = opened; file_least = new_least }) synced
-    ∙ ap (λ k. record { bytes = all; safe = all; closed = closed + length batch; batch = []; is_lost = lost; is_ended = is_ended; file = k; file_safe = new; opened = opened; file_least = new_least }) more
-    ∙ ap (λ k. record { bytes = all; safe = all; closed = closed + length batch; batch = []; is_lost = lost; is_ended = is_ended; file = append_known file (sealed_open batch); file_safe = new; opened = opened; file_least = k }) same_least
+    ap (λ k. record { bytes = k; safe = closed_of new_closed new_safe; closed = new_closed; batch = left; is_lost = lost; is_ended = is_ended; file = new; file_safe = new_safe; opened = opened; file_least = new_least; head = new_head }) bytes
+    ∙ ap (λ k. record { bytes = all; safe = k; closed = new_closed; batch = left; is_lost = lost; is_ended = is_ended; file = new; file_safe = new_safe; opened = opened; file_least = new_least; head = new_head }) kept
+    ∙ ap (λ n. record { bytes = all; safe = all; closed = n; batch = left; is_lost = lost; is_ended = is_ended; file = new; file_safe = new_safe; opened = opened; file_least = new_least; head = new_head }) count
+    ∙ ap (λ l. record { bytes = all; safe = all; closed = closed + length batch; batch = l; is_lost = lost; is_ended = is_ended; file = new; file_safe = new_safe; opened = opened; file_least = new_least; head = new_head }) none
+    ∙ ap (λ k. record { bytes = all; safe = all; closed = closed + length batch; batch = []; is_lost = lost; is_ended = is_ended; file = new; file_safe = k; opened = opened; file_least = new_least; head = new_head }) synced
+    ∙ ap (λ k. record { bytes = all; safe = all; closed = closed + length batch; batch = []; is_lost = lost; is_ended = is_ended; file = k; file_safe = new; opened = opened; file_least = new_least; head = new_head }) more
+    ∙ ap (λ k. record { bytes = all; safe = all; closed = closed + length batch; batch = []; is_lost = lost; is_ended = is_ended; file = append_known file (sealed_open batch); file_safe = new; opened = opened; file_least = k; head = new_head }) same_least
 
 -- what was safe of it still is
-pub kept-closed : (closed new_closed : ℕ) (lost is_ended : Bool) (file safe new new_safe : Option (List ℕ)) (records batch left : List ℕ) (room opened : ℕ) (least new_least : Option ℕ)
+pub kept-closed : (closed new_closed : ℕ) (lost is_ended : Bool) (file safe new new_safe : Option (List ℕ)) (records batch left : List ℕ) (room opened : ℕ) (least new_least : Option ℕ) (head new_head : Option (List ℕ))
     → IsSealed closed lost is_ended file safe records batch room opened → lost ≡ false → is_ended ≡ false → IsRecords batch
     → new ≡ append_known file (sealed_batch batch) → new_safe ≡ new → left ≡ [] → new_closed ≡ closed + length batch → new_least ≡ least
     → KeepsFront (closed_of closed safe) (closed_of new_closed new_safe)
-kept-closed closed new_closed lost is_ended file safe new new_safe records batch left room opened least new_least is sound going one added synced none count same_least =
-    let view = view-closed closed new_closed lost is_ended file safe new new_safe records batch left room opened least new_least is sound going one added synced none count same_least in
+kept-closed closed new_closed lost is_ended file safe new new_safe records batch left room opened least new_least head new_head is sound going one added synced none count same_least =
+    let view = view-closed closed new_closed lost is_ended file safe new new_safe records batch left room opened least new_least head new_head is sound going one added synced none count same_least in
     let to : closed_of new_closed new_safe ≡ append_known (closed_of closed safe) batch =
     ap (λ (v : SealedBatches). v.safe) view ∙ ap (λ k. append_known (closed_of closed k) batch) (is.is_safe sound) in
     subst (KeepsFront (closed_of closed safe)) (sym to) (keeps-added (closed_of closed safe) batch)
@@ -206,9 +207,9 @@ pub sealed-ended : (closed : ℕ) (lost is_ended : Bool) (file safe new new_safe
 sealed-ended closed lost is_ended file safe new new_safe records batch left room new_room opened is sound going added synced none =
     let to : new_safe ≡ append_known safe (sealed_batch end_batch) =
     synced ∙ added ∙ ap (λ k. append_known k (sealed_batch end_batch)) (is.is_safe sound) in
-    let before : AreClosed closed false safe = subst (λ e. AreClosed closed e safe) going is.is_closed in
+    let before : AreClosed closed false safe = subst (λ e. AreClosed closed e safe) going (is.is_closed sound) in
     record {
-      is_closed = subst (AreClosed closed true) (sym to) (are_closed-end closed safe before);
+      is_closed = λ _. subst (AreClosed closed true) (sym to) (are_closed-end closed safe before);
       is_safe = λ _. sym synced;
       few = is.few;
       front = subst (λ k. IsFrontOf k records) (sym (ap (closed_of closed) to ∙ closed_of-end closed safe before)) is.front;
@@ -218,25 +219,26 @@ sealed-ended closed lost is_ended file safe new new_safe records batch left room
     }
 
 -- what is seen of it then
-pub view-ended : (closed : ℕ) (lost is_ended : Bool) (file safe new new_safe : Option (List ℕ)) (records batch left : List ℕ) (room opened : ℕ) (least new_least : Option ℕ)
+pub view-ended : (closed : ℕ) (lost is_ended : Bool) (file safe new new_safe : Option (List ℕ)) (records batch left : List ℕ) (room opened : ℕ) (least new_least : Option ℕ) (head new_head : Option (List ℕ))
     → IsSealed closed lost is_ended file safe records batch room opened → lost ≡ false → is_ended ≡ false
     → new ≡ append_known file (sealed_batch end_batch) → new_safe ≡ new → left ≡ [] → batch ≡ [] → new_least ≡ least
-    → log_of closed lost true new new_safe left opened new_least ≡ record (log_of closed lost is_ended file safe batch opened least) {
+    → log_of closed lost true new new_safe left opened new_least new_head ≡ record (log_of closed lost is_ended file safe batch opened least head) {
       is_ended = true;
       file = append_known file (sealed_batch end_batch);
       file_safe = new;
+      head = new_head;
     }
-view-ended closed lost is_ended file safe new new_safe records batch left room opened least new_least is sound going added synced none nothing same_least =
+view-ended closed lost is_ended file safe new new_safe records batch left room opened least new_least head new_head is sound going added synced none nothing same_least =
     let before : AreClosed closed false file = subst (λ e. AreClosed closed e file) going (file-closed closed lost is_ended file safe records batch room opened is sound) in
     let same : closed_of closed new ≡ closed_of closed file = ap (closed_of closed) added ∙ closed_of-end closed file before in
     let still : closed_of closed new_safe ≡ closed_of closed safe = ap (closed_of closed) synced ∙ same ∙ ap (closed_of closed) (is.is_safe sound) in
     let left_is : left ≡ batch = none ∙ sym nothing in
-    ap (λ k. record { bytes = append_known k left; safe = closed_of closed new_safe; closed = closed; batch = left; is_lost = lost; is_ended = true; file = new; file_safe = new_safe; opened = opened; file_least = new_least }) same
-    ∙ ap (λ k. record { bytes = append_known (closed_of closed file) left; safe = k; closed = closed; batch = left; is_lost = lost; is_ended = true; file = new; file_safe = new_safe; opened = opened; file_least = new_least }) still
-    ∙ ap (λ l. record { bytes = append_known (closed_of closed file) l; safe = closed_of closed safe; closed = closed; batch = l; is_lost = lost; is_ended = true; file = new; file_safe = new_safe; opened = opened; file_least = new_least }) left_is
-    ∙ ap (λ k. record { bytes = append_known (closed_of closed file) batch; safe = closed_of closed safe; closed = closed; batch = batch; is_lost = lost; is_ended = true; file = new; file_safe = k; opened = opened; file_least = new_least }) synced
-    ∙ ap (λ k. record { bytes = append_known (closed_of closed file) batch; safe = closed_of closed safe; closed = closed; batch = batch; is_lost = lost; is_ended = true; file = k; file_safe = new; opened = opened; file_least = new_least }) added
-    ∙ ap (λ k. record { bytes = append_known (closed_of closed file) batch; safe = closed_of closed safe; closed = closed; batch = batch; is_lost = lost; is_ended = true; file = append_known file (sealed_batch end_batch); file_safe = new; opened = opened; file_least = k }) same_least
+    ap (λ k. record { bytes = append_known k left; safe = closed_of closed new_safe; closed = closed; batch = left; is_lost = lost; is_ended = true; file = new; file_safe = new_safe; opened = opened; file_least = new_least; head = new_head }) same
+    ∙ ap (λ k. record { bytes = append_known (closed_of closed file) left; safe = k; closed = closed; batch = left; is_lost = lost; is_ended = true; file = new; file_safe = new_safe; opened = opened; file_least = new_least; head = new_head }) still
+    ∙ ap (λ l. record { bytes = append_known (closed_of closed file) l; safe = closed_of closed safe; closed = closed; batch = l; is_lost = lost; is_ended = true; file = new; file_safe = new_safe; opened = opened; file_least = new_least; head = new_head }) left_is
+    ∙ ap (λ k. record { bytes = append_known (closed_of closed file) batch; safe = closed_of closed safe; closed = closed; batch = batch; is_lost = lost; is_ended = true; file = new; file_safe = k; opened = opened; file_least = new_least; head = new_head }) synced
+    ∙ ap (λ k. record { bytes = append_known (closed_of closed file) batch; safe = closed_of closed safe; closed = closed; batch = batch; is_lost = lost; is_ended = true; file = k; file_safe = new; opened = opened; file_least = new_least; head = new_head }) added
+    ∙ ap (λ k. record { bytes = append_known (closed_of closed file) batch; safe = closed_of closed safe; closed = closed; batch = batch; is_lost = lost; is_ended = true; file = append_known file (sealed_batch end_batch); file_safe = new; opened = opened; file_least = k; head = new_head }) same_least
 
 -- a piece was added to the open batch
 pub sealed-written : (closed : ℕ) (lost is_ended : Bool) (file safe : Option (List ℕ)) (records batch piece more : List ℕ) (room new_room opened : ℕ)
@@ -269,16 +271,16 @@ sealed-cut closed kept lost is_ended file safe records batch left room opened is
     }
 
 -- what is seen of it then
-pub view-cut : (closed kept : ℕ) (lost is_ended : Bool) (file safe : Option (List ℕ)) (records batch left : List ℕ) (room opened : ℕ) (least : Option ℕ)
+pub view-cut : (closed kept : ℕ) (lost is_ended : Bool) (file safe : Option (List ℕ)) (records batch left : List ℕ) (room opened : ℕ) (least : Option ℕ) (head : Option (List ℕ))
     → IsSealed closed lost is_ended file safe records batch room opened → lost ≡ false → closed ≤ kept → left ≡ take (kept - closed) batch
-    → log_of closed lost is_ended file safe left opened least ≡ record (log_of closed lost is_ended file safe batch opened least) {
+    → log_of closed lost is_ended file safe left opened least head ≡ record (log_of closed lost is_ended file safe batch opened least head) {
       bytes = cut_known kept (append_known (closed_of closed file) batch);
       batch = take (kept - closed) batch;
     }
-view-cut closed kept lost is_ended file safe records batch left room opened least is sound behind cut =
+view-cut closed kept lost is_ended file safe records batch left room opened least head is sound behind cut =
     let lines = take (kept - closed) batch in
-    ap (λ l. log_of closed lost is_ended file safe l opened least) cut
-    ∙ ap (λ b. record { bytes = b; safe = closed_of closed safe; closed = closed; batch = lines; is_lost = lost; is_ended = is_ended; file = file; file_safe = safe; opened = opened; file_least = least })
+    ap (λ l. log_of closed lost is_ended file safe l opened least head) cut
+    ∙ ap (λ b. record { bytes = b; safe = closed_of closed safe; closed = closed; batch = lines; is_lost = lost; is_ended = is_ended; file = file; file_safe = safe; opened = opened; file_least = least; head = head })
     (cut-open closed kept is_ended file batch (file-closed closed lost is_ended file safe records batch room opened is sound) behind)
 
 -- a call of the file has failed
@@ -286,7 +288,7 @@ pub sealed-lost : (closed : ℕ) (lost is_ended : Bool) (file safe new new_safe 
     → IsSealed closed lost is_ended file safe records batch room opened → new_safe ≡ safe
     → IsSealed closed true is_ended new new_safe records [] new_room opened
 sealed-lost closed lost is_ended file safe new new_safe records batch room new_room opened is kept = record {
-  is_closed = subst (AreClosed closed is_ended) (sym kept) is.is_closed;
+  is_closed = λ sound. absurd cc;
   is_safe = λ sound. absurd cc;
   few = is.few;
   front = subst (λ k. IsFrontOf (closed_of closed k) records) (sym kept) is.front;
@@ -312,7 +314,7 @@ pub sealed-opened : (known file safe : Option (List ℕ)) (held batch : List ℕ
 sealed-opened None file safe held batch closed room none synced count nothing =
     let unknown : safe ≡ None = synced ∙ none in
     record {
-      is_closed = subst (AreClosed closed false) (sym unknown) tt;
+      is_closed = λ _. subst (AreClosed closed false) (sym unknown) tt;
       is_safe = λ _. sym synced;
       few = omega (arith, count);
       front = subst (λ k. IsFrontOf (closed_of closed k) held) (sym unknown) tt;
@@ -328,7 +330,7 @@ sealed-opened (Some text) file safe held batch closed room cut synced count noth
     let all : held ≡ take closed (leaving_out 0 (sealed_text cut.batches)) =
     same ∙ sym (opened-records text held file cut) ∙ ap (λ n. take n (leaving_out 0 (sealed_text cut.batches))) (sym count) in
     record {
-      is_closed = subst (AreClosed closed false) (sym to) is;
+      is_closed = λ _. subst (AreClosed closed false) (sym to) is;
       is_safe = λ _. sym synced;
       few = omega (arith, count);
       front = subst (λ k. IsFrontOf (closed_of closed k) held) (sym to)
@@ -338,11 +340,11 @@ sealed-opened (Some text) file safe held batch closed room cut synced count noth
       opened_is = omega arith;
     }
 
-pub opened : (known file safe : Option (List ℕ)) (held batch : List ℕ) (closed first : ℕ) (least : Option ℕ) → Closes known file held
-    → closed ≡ length held → batch ≡ [] → Opens known (log_of closed false false file safe batch first least)
-opened None file safe held batch closed first least none count nothing =
+pub opened : (known file safe : Option (List ℕ)) (held batch : List ℕ) (closed first : ℕ) (least : Option ℕ) (head : Option (List ℕ)) → Closes known file held
+    → closed ≡ length held → batch ≡ [] → Opens known (log_of closed false false file safe batch first least head)
+opened None file safe held batch closed first least head none count nothing =
     (none, ap (λ k. append_known (closed_of closed k) batch) none)
-opened (Some text) file safe held batch closed first least cut count nothing = record {
+opened (Some text) file safe held batch closed first least head cut count nothing = record {
   batches = cut.batches;
   torn = cut.torn;
   begins = cut.begins;

@@ -2,8 +2,8 @@
 use Rattle.std.proofs.Common.{append_assoc, ◌≡◌, ◌≤◌, ◌⊎◌, inl, inr, false, ℕ, List, [], ◌∷◌, ◌++◌, length, take, drop, All, Option, None, Some, Result, Ok, Err, OnOk, OnErr, refl, sym, ap, subst, ◌∙◌, arith}
 use Rattle.std.proofs.lemmas.List.{append_cancel_left, length-append, take-append-drop, take_at}
 use Rattle.std.proofs.lemmas.List.Elements.{All-head, All-tail}
-use Rattle.file_medium.specs.Files.{KeepsFront, LowersTo, SparesFront, cut_known}
-use Rattle.file_medium.proofs.Fronts.{spares-cut, spares-same}
+use Rattle.file_medium.specs.Files.{KeepsFront, SparesFront, cut_known}
+use Rattle.file_medium.proofs.Fronts.{spares-same}
 use Rattle.file_medium.specs.Copies.{IsCopyOf}
 use Rattle.sealed_text.specs.Seals.{sum_line, sealed_batch, sealed_text, closed_text, IsBatch, IsRecords, IsTorn, IsEnd, Unseals}
 use Rattle.sealed_text.specs.declared.reading.Unsealed.{Unsealed}

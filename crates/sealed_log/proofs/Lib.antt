@@ -2,3 +2,4 @@ pub mod Leaving
 pub mod Closing
 pub mod Readings
 pub mod Keeping
+pub mod Replacing

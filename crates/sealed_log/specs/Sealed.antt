@@ -4,6 +4,7 @@ use Rattle.std.specs.List.{concat}
 use Rattle.std.specs.Io.KnownBytes.{append_known}
 use Rattle.file_medium.specs.Copies.{IsFrontOf}
 use Rattle.file_medium.specs.Files.{SparesFront}
+use Rattle.file_swap.specs.Heads.{LeavesEither}
 use Rattle.sealed_text.specs.Seals.{IsBatch, IsRecords, IsTorn, BeginsWith, Unseals, IsDamagedAt, sealed_batch, sealed_text, closed_text}
 use Rattle.sealed_text.specs.declared.reading.Unsealed.{Unsealed}
 use Rattle.sealed_log.specs.declared.fault.SealFault.{SealFault}
@@ -12,7 +13,8 @@ use Rattle.sealed_log.specs.declared.fault.SealFault.TheVariants.{Damaged, Ended
 -- The log as its callers see it: the records of the closed batches and of the open one, and those that are safe, each where they
 -- are known; how many bytes of records are closed; the open batch; whether a sync has failed; whether the world was ended; what
 -- the file holds, and what of it is safe, where they are known; how many bytes of records were closed when it was opened, which
--- are the fewest that a cut of it has left; and the fewest bytes that a cut of the file has left, where that is known.
+-- are the fewest that a cut of it has left; the fewest bytes that a cut of the file has left, where that is known; and the head in
+-- front of what the file holds, where that is known.
 pub record SealedBatches : Type 0 where
   pub bytes : Option (List ℕ)
   pub safe : Option (List ℕ)
@@ -24,6 +26,7 @@ pub record SealedBatches : Type 0 where
   pub file_safe : Option (List ℕ)
   pub opened : ℕ
   pub file_least : Option ℕ
+  pub head : Option (List ℕ)
 
 -- A text without its sum lines: from each `s` (115) on the next 21 bytes are left out. So many bytes are left out before.
 abbrev pub leaving_out : ℕ → List ℕ → List ℕ
@@ -35,9 +38,10 @@ leaving_out (suc count) (b ∷ bs) = leaving_out count bs
 abbrev pub closed_of : ℕ → Option (List ℕ) → Option (List ℕ)
 closed_of closed known = option_map (λ text. take closed (leaving_out 0 text)) known
 
--- What callers see of a log: of the file, what it holds, what of it is safe and what its cuts have left, and of the open batch.
-abbrev pub log_of : ℕ → Bool → Bool → Option (List ℕ) → Option (List ℕ) → List ℕ → ℕ → Option ℕ → SealedBatches
-log_of closed is_lost is_ended file safe batch opened file_least = record {
+-- What callers see of a log: of the file, what it holds, what of it is safe, what its cuts have left and its head, and of the open
+-- batch.
+abbrev pub log_of : ℕ → Bool → Bool → Option (List ℕ) → Option (List ℕ) → List ℕ → ℕ → Option ℕ → Option (List ℕ) → SealedBatches
+log_of closed is_lost is_ended file safe batch opened file_least head = record {
   bytes = append_known (closed_of closed file) batch;
   safe = closed_of closed safe;
   closed = closed;
@@ -48,6 +52,7 @@ log_of closed is_lost is_ended file safe batch opened file_least = record {
   file_safe = safe;
   opened = opened;
   file_least = file_least;
+  head = head;
 }
 
 -- The text is that of closed batches, of which the records have so many bytes; behind them stands the end of the world where it
@@ -67,12 +72,12 @@ AreClosed closed is_ended (Some text) = IsClosed closed is_ended text
 abbrev pub IsOpen : List ℕ → Type 0
 IsOpen batch = (batch ≡ []) ⊎ IsBatch batch
 
--- What holds of every log: the safe bytes of the file are closed, and are all that it holds unless a sync has failed; the records
+-- What holds of every log: the safe bytes of the file are closed, and are all that it holds, unless a call of it has failed; the records
 -- that are kept in memory are the first ones; the open batch has whole lines, and room for the line that closes it; and what was
 -- closed at the opening still is.
 pub record IsSealed (closed : ℕ) (is_lost is_ended : Bool) (file safe : Option (List ℕ)) (records batch : List ℕ) (room opened : ℕ)
     : Type 0 where
-  pub is_closed : AreClosed closed is_ended safe
+  pub is_closed : is_lost ≡ false → AreClosed closed is_ended safe
   pub is_safe : is_lost ≡ false → file ≡ safe
   pub few : length records ≤ closed
   pub front : IsFrontOf (closed_of closed safe) records
@@ -147,6 +152,20 @@ pub record IsUntouched (bytes : Option (List ℕ)) (least : Option ℕ) (new new
 abbrev pub IsLengthOf : Option (List ℕ) → ℕ → Type 0
 IsLengthOf None count = ⊤
 IsLengthOf (Some xs) count = count ≡ length xs
+
+-- It isn't known which file is there, and the log is lost: a stop of the machine leaves what was safe of the old file behind its
+-- head, or the new file, whole.
+pub record IsInDoubt (old new : SealedBatches) (file : List ℕ) : Type 0 where
+  pub same : new ≡ record old {
+    bytes = new.bytes;
+    safe = new.safe;
+    is_lost = true;
+    file = new.file;
+    file_safe = new.file_safe;
+    file_least = new.file_least;
+    head = new.head;
+  }
+  pub left : LeavesEither old.head old.file_safe new.head new.file_safe file
 
 -- What was added to a file for a batch: nothing for none, and else the batch and the line that closes it.
 abbrev pub sealed_open : List ℕ → List ℕ

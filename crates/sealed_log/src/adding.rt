@@ -1,11 +1,12 @@
 //! What is added to an open batch, and to the file that it is closed in.
 
-ghost use Rattle.std.specs.Prelude.{◌≡◌, ◌+◌, ◌<◌, ◌≤◌, ◌++◌, [], true, length, take, OnOk, OnErr, vec_len, vec_capacity};
+ghost use Rattle.std.specs.Prelude.{◌≡◌, ◌+◌, ◌<◌, ◌≤◌, ◌++◌, [], true, length, take, IfSome, OnOk, OnErr, vec_len, vec_capacity};
 ghost use Rattle.std.specs.Io.KnownBytes.{append_known};
-ghost use Rattle.sealed_text.specs.Seals.{sealed_batch, EndsInLineFeed};
+ghost use Rattle.sealed_text.specs.Seals.{sealed_batch, EndsInLineFeed, IsRecords};
 
 use file_medium::{FileFailed, LogFile, write_front};
-use sealed_text::sum_line;
+use sealed_text::{end_batch, is_batch, sum_line};
+use std::alloc::Global;
 
 /// The length of a line that closes a batch.
 const SUM_LINE: usize = 21;
@@ -46,6 +47,22 @@ pub(crate) fn add_sealed<F: LogFile>(file: &mut F, batch: &mut Vec<u8>) -> Resul
         return Err(FileFailed);
     }
     file.sync()
+}
+
+/// The text of one closed batch of these records, or None where the bytes are no batch of records, or
+/// memory is wanting.
+pub(crate) fn seal_records(alloc: Global, held: &[u8]) -> Option<Vec<u8>>
+    ensures text { IfSome result (λ text. text.items ≡ sealed_batch held.now) }
+    ensures records { IfSome result (λ _. IsRecords held.now) }
+{
+    if !is_batch(held) || held == end_batch() {
+        return None;
+    }
+    let mut text = Vec::new(alloc);
+    add_piece(&mut text, held).ok()?;
+    let line = sum_line(held);
+    text.extend_from_slice(&line).unwrap();
+    Some(text)
 }
 
 /// Whether so many bytes are there, and are none, or end in a line feed.

@@ -1,17 +1,19 @@
 //! The log of closed batches.
 
-ghost use Rattle.std.specs.Prelude.{◌≡◌, ◌≢◌, ◌+◌, ◌-◌, ◌≤◌, ◌++◌, [], None, Some, false, true, length, take, IfOk, IfErr, IsOk, OnOk, OnErr};
+ghost use Rattle.std.specs.Prelude.{◌≡◌, ◌≢◌, ◌+◌, ◌-◌, ◌≤◌, ◌++◌, [], None, Some, false, true, length, take, Err, IfOk, IfErr, IsOk, OnOk, OnErr};
 ghost use Rattle.std.specs.Io.KnownBytes.{append_known};
 ghost use Rattle.std.specs.Io.{ReadsAtMost};
-ghost use Rattle.file_medium.specs.Files.{CutsTo, KeepsFront, LowersTo, ReadsAt, cut_known};
-ghost use Rattle.sealed_text.specs.Seals.{IsBatch, end_batch, sealed_batch};
-ghost use Rattle.sealed_log.specs.Sealed.{Opens, Refuses, IsLengthOf, IsOpen, IsUntouched, KeepsAll, LosesNothing, SparesClosed, sealed_open};
+ghost use Rattle.file_medium.specs.Copies.{IsCopyOf};
+ghost use Rattle.file_medium.specs.Files.{CutsTo, IsSpared, KeepsFront, LowersTo, ReadsAt, cut_known};
+ghost use Rattle.sealed_text.specs.Seals.{IsBatch, IsRecords, end_batch, sealed_batch};
+ghost use Rattle.sealed_log.specs.Sealed.{Opens, Refuses, IsInDoubt, IsLengthOf, IsOpen, IsUntouched, KeepsAll, LosesNothing, SparesClosed, sealed_open};
 
-use crate::adding::{add_piece, add_sealed, are_lines};
+use crate::adding::{add_piece, add_sealed, are_lines, seal_records};
 use crate::fault::SealFault;
 use crate::opening::read_closed;
 use crate::reading::copy_behind;
 use file_medium::{FileFailed, LogFile};
+use file_swap::{HeadedLog, PutFault, ReplaceableLog};
 use sealed_text::{end_batch, is_batch};
 use std::alloc::Global;
 use std::marker::Model;
@@ -32,11 +34,12 @@ use std::marker::Model;
 /// from there on only the open batch can be read, and a read in front of it fails. Contracts see the
 /// records, those that are safe, how many bytes of them are closed, and were at the opening, the open
 /// batch, whether a call of the file has failed, whether the world was ended, and what the file holds,
-/// what of it is safe, and what its cuts have left. No call cuts the file once it was opened.
+/// what of it is safe, what its cuts have left, and its head, where it tells one. No call cuts the file
+/// once it was opened.
 /// Costs memory for the greatest batch, and until they were read for the records. Source: this
 /// project.
 #[derive(Drop)]
-pub struct SealedLog<F: LogFile> {
+pub struct SealedLog<F: HeadedLog> {
     alloc: Global,
     file: F,
     // The first records, as long as they are kept.
@@ -50,20 +53,20 @@ pub struct SealedLog<F: LogFile> {
     is_ended: bool,
 }
 
-impl<F: LogFile> Model for SealedLog<F> {
+impl<F: HeadedLog> Model for SealedLog<F> {
     ghost use Rattle.std.specs.Prelude.{vec_capacity};
     ghost use Rattle.sealed_log.specs.Sealed.{SealedBatches, log_of, IsSealed};
 
     ghost Value = { SealedBatches };
 
     ghost view = { λ l. log_of l.closed l.is_lost l.is_ended (F.bytes l.file) (F.safe l.file)
-        l.batch.items l.opened (F.least l.file) };
+        l.batch.items l.opened (F.least l.file) (F.head l.file) };
 
     ghost invariant = { λ l. IsSealed l.closed l.is_lost l.is_ended (F.bytes l.file)
         (F.safe l.file) l.records.items l.batch.items (vec_capacity l.batch) l.opened };
 }
 
-impl<F: LogFile> SealedLog<F> {
+impl<F: HeadedLog> SealedLog<F> {
     /// The log in a file of closed batches. The file is synced first, so that all of it is safe, and
     /// read whole; what a stop has left behind the closed batches is cut off, and that is synced too.
     ///
@@ -125,6 +128,7 @@ impl<F: LogFile> SealedLog<F> {
           is_ended = true;
           file = append_known self.old.file (sealed_batch end_batch);
           file_safe = self.new.file;
+          head = self.new.head;
         }) }
         ensures nothing_open { OnOk result (self.old.batch ≡ []) }
         ensures sound { OnOk result (self.old.is_lost ≡ false) }
@@ -160,12 +164,68 @@ impl<F: LogFile> SealedLog<F> {
         ensures bytes { F.bytes result.now ≡ self.now.file }
         ensures safe { F.safe result.now ≡ self.now.file_safe }
         ensures least { F.least result.now ≡ self.now.file_least }
+        ensures head { F.head result.now ≡ self.now.head }
     {
         &self.file
     }
 }
 
-impl<F: LogFile> LogFile for SealedLog<F> {
+impl<F: ReplaceableLog> SealedLog<F> {
+    /// Puts another file in the place of the file: it begins with this head, and behind it stands one
+    /// closed batch of these records. At Ok they are the records, all of them closed and safe, and a
+    /// stop of the machine leaves them; no batch is open, and none of the records can be read.
+    ///
+    /// `Refused`: the log is as it was. So it is always where a batch is open, where the bytes are no
+    /// batch of records, where a call of the file has failed or the world was ended before, and where
+    /// memory is wanting. `Failed`: a stop of the machine leaves what was safe of the old file, or the
+    /// new one, whole, and the log is lost: each later call fails. Costs memory for the text of the
+    /// batch as long as the call takes, a write of it and the head, and two syncs. At Ok what was kept
+    /// in memory of the records is given back.
+    pub fn replace(&mut self, head: &[u8], held: &[u8]) -> Result<(), PutFault>
+        ensures bytes { OnOk result (IsCopyOf self.new.bytes held.now) }
+        ensures safe { OnOk result (IsCopyOf self.new.safe held.now) }
+        ensures closed { OnOk result (self.new.closed ≡ length held.now) }
+        ensures opened { OnOk result (self.new.opened ≡ length held.now) }
+        ensures batch { OnOk result (self.new.batch ≡ []) }
+        ensures sound { OnOk result (self.new.is_lost ≡ false) }
+        ensures going_on { OnOk result (self.new.is_ended ≡ false) }
+        ensures head { OnOk result (IsCopyOf self.new.head head.now) }
+        ensures file { OnOk result (IsCopyOf self.new.file (sealed_batch held.now)) }
+        ensures file_safe { OnOk result (self.new.file_safe ≡ self.new.file) }
+        ensures file_least { OnOk result (IsSpared (length (sealed_batch held.now))
+            self.new.file_least) }
+        ensures refused { IfErr result (λ fault. fault ≡ PutFault.Refused → self.new ≡ self.old) }
+        ensures failed { IfErr result (λ fault. fault ≡ PutFault.Failed
+            → IsInDoubt self.old self.new (head.now ++ sealed_batch held.now)) }
+        ensures nothing_open { OnOk result (self.old.batch ≡ []) }
+        ensures records { OnOk result (IsRecords held.now) }
+        ensures lost { self.old.is_lost ≡ true → result ≡ Err PutFault.Refused }
+        ensures ended { self.old.is_ended ≡ true → result ≡ Err PutFault.Refused }
+    {
+        if self.is_ended || self.is_lost || !self.batch.is_empty() {
+            return Err(PutFault::Refused);
+        }
+        let Some(text) = seal_records(self.alloc, held) else {
+            return Err(PutFault::Refused);
+        };
+        match self.file.replace(head, text.as_slice()) {
+            Ok(()) => {
+                self.records = Vec::new(self.alloc);
+                self.closed = held.len() as u64;
+                self.opened = self.closed;
+                Ok(())
+            }
+            Err(PutFault::Refused) => Err(PutFault::Refused),
+            Err(PutFault::Failed) => {
+                self.records.clear();
+                self.is_lost = true;
+                Err(PutFault::Failed)
+            }
+        }
+    }
+}
+
+impl<F: HeadedLog> LogFile for SealedLog<F> {
     ghost bytes = { λ l. l.bytes };
 
     ghost safe = { λ l. l.safe };
@@ -253,6 +313,7 @@ impl<F: LogFile> LogFile for SealedLog<F> {
           batch = [];
           file = append_known self.old.file (sealed_open self.old.batch);
           file_safe = self.new.file;
+          head = self.new.head;
         }) }
         ensures records { OnOk result (self.old.batch ≢ end_batch) }
         ensures sound { OnOk result (self.old.is_lost ≡ false) }

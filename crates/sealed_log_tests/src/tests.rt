@@ -5,6 +5,8 @@ use sealed_log::*;
 use std::alloc::Global;
 use std::process::Abort;
 
+mod replacing;
+
 // Of 25 bytes.
 const ONE: &[u8] = b"R 1\nsum 000000ad00000214\n";
 // Of 54 bytes.

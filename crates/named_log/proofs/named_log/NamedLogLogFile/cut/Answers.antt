@@ -1,4 +1,4 @@
-use Rattle.std.proofs.Common.{◌≡◌, ℕ, List, Option, rules, subst, ap, ◌∙◌, arith}
+use Rattle.std.proofs.Common.{◌≡◌, ℕ, List, Option, rules, subst, ap}
 use Rattle.file_medium.specs.Files.{CutsTo, LowersTo, cut_known}
 use Rattle.named_log.specs.Names.{LogBehind, behind, count_behind}
 use Rattle.named_log.proofs.Names.{cut-behind, least-behind, name-cut}

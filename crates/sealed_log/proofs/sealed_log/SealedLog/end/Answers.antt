@@ -24,6 +24,6 @@ returns-in-Ok-clause-ok g c =
     let new_file = g.F.LogFile.bytes c.add_sealed-ended.new.file in
     let new_safe = g.F.LogFile.safe c.add_sealed-ended.new.file in
     let view = view-ended l.closed l.is_lost l.is_ended (g.F.LogFile.bytes l.file) (g.F.LogFile.safe l.file) new_file new_safe
-    l.records.items l.batch.items c.add_sealed-ended.new.batch.items _ _ _ _ c.self.invariant c.if-self.false c.if-self-2.false added c.in-Ok.ensures.safe c.in-Ok.ensures.none none c.in-Ok.ensures.least in
-    rw c.in-Ok.is (subst (λ v. log_of l.closed l.is_lost true new_file new_safe c.add_sealed-ended.new.batch.items l.opened (g.F.LogFile.least c.add_sealed-ended.new.file)
-    ≡ record v { is_ended = true; file = append_known v.file (sealed_batch end_batch); file_safe = new_file }) c.self.view_is view)
+    l.records.items l.batch.items c.add_sealed-ended.new.batch.items _ _ _ _ (g.F.HeadedLog.head l.file) (g.F.HeadedLog.head c.add_sealed-ended.new.file) c.self.invariant c.if-self.false c.if-self-2.false added c.in-Ok.ensures.safe c.in-Ok.ensures.none none c.in-Ok.ensures.least in
+    rw c.in-Ok.is (subst (λ v. log_of l.closed l.is_lost true new_file new_safe c.add_sealed-ended.new.batch.items l.opened (g.F.LogFile.least c.add_sealed-ended.new.file) (g.F.HeadedLog.head c.add_sealed-ended.new.file)
+    ≡ record v { is_ended = true; file = append_known v.file (sealed_batch end_batch); file_safe = new_file; head = g.F.HeadedLog.head c.add_sealed-ended.new.file }) c.self.view_is view)

@@ -11,6 +11,6 @@ returns-clause-ok g c =
     let safe = g.F.LogFile.safe l.file in
     let left : c.truncate.new.self.items ≡ take (c.args.kept - l.closed) l.batch.items =
     c.truncate.ensures.items ∙ ap (λ n. take n l.batch.items) (omega (arith, c.in-Some.ensures)) in
-    subst (λ v. log_of l.closed l.is_lost l.is_ended file safe c.truncate.new.self.items l.opened (g.F.LogFile.least l.file)
+    subst (λ v. log_of l.closed l.is_lost l.is_ended file safe c.truncate.new.self.items l.opened (g.F.LogFile.least l.file) (g.F.HeadedLog.head l.file)
     ≡ record v { bytes = cut_known c.args.kept v.bytes; batch = take (c.args.kept - v.closed) v.batch }) c.self.view_is
-    (view-cut l.closed c.args.kept l.is_lost l.is_ended file safe l.records.items l.batch.items c.truncate.new.self.items _ _ _ c.self.invariant c.if-self.false (omega (arith, c.in-Some.ensures)) left)
+    (view-cut l.closed c.args.kept l.is_lost l.is_ended file safe l.records.items l.batch.items c.truncate.new.self.items _ _ _ _ c.self.invariant c.if-self.false (omega (arith, c.in-Some.ensures)) left)

@@ -26,10 +26,10 @@ returns-in-Ok-clause-ok g c =
     let count : c.in-Some.closed ≡ l.closed + length l.batch.items = omega (arith, c.in-Some.ensures, c.len.ensures, l.batch.ok.0) in
     let new_file = g.F.LogFile.bytes c.add_sealed.new.file in
     let new_safe = g.F.LogFile.safe c.add_sealed.new.file in
-    subst (λ v. log_of c.in-Some.closed l.is_lost l.is_ended new_file new_safe c.add_sealed.new.batch.items l.opened (g.F.LogFile.least c.add_sealed.new.file)
-    ≡ record v { safe = v.bytes; closed = v.closed + length v.batch; batch = []; file = append_known v.file (sealed_open v.batch); file_safe = new_file }) c.self.view_is
+    subst (λ v. log_of c.in-Some.closed l.is_lost l.is_ended new_file new_safe c.add_sealed.new.batch.items l.opened (g.F.LogFile.least c.add_sealed.new.file) (g.F.HeadedLog.head c.add_sealed.new.file)
+    ≡ record v { safe = v.bytes; closed = v.closed + length v.batch; batch = []; file = append_known v.file (sealed_open v.batch); file_safe = new_file; head = g.F.HeadedLog.head c.add_sealed.new.file }) c.self.view_is
     (view-closed l.closed c.in-Some.closed l.is_lost l.is_ended (g.F.LogFile.bytes l.file) (g.F.LogFile.safe l.file) new_file new_safe
-    l.records.items l.batch.items c.add_sealed.new.batch.items _ _ _ _
+    l.records.items l.batch.items c.add_sealed.new.batch.items _ _ _ _ (g.F.HeadedLog.head l.file) (g.F.HeadedLog.head c.add_sealed.new.file)
     c.self.invariant c.if-self.false c.if-self-2.false one c.in-Ok.ensures.added c.in-Ok.ensures.safe c.in-Ok.ensures.none count c.in-Ok.ensures.least)
 
 pub returns-in-Ok-clause-kept : goal.returns-in-Ok-clause-kept
@@ -42,5 +42,5 @@ returns-in-Ok-clause-kept g c =
     let new_safe = g.F.LogFile.safe c.add_sealed.new.file in
     subst (λ v. KeepsFront v.safe (closed_of c.in-Some.closed new_safe)) c.self.view_is
     (kept-closed l.closed c.in-Some.closed l.is_lost l.is_ended (g.F.LogFile.bytes l.file) (g.F.LogFile.safe l.file) (g.F.LogFile.bytes c.add_sealed.new.file) new_safe
-    l.records.items l.batch.items c.add_sealed.new.batch.items _ _ _ _
+    l.records.items l.batch.items c.add_sealed.new.batch.items _ _ _ _ (g.F.HeadedLog.head l.file) (g.F.HeadedLog.head c.add_sealed.new.file)
     c.self.invariant c.if-self.false c.if-self-2.false one c.in-Ok.ensures.added c.in-Ok.ensures.safe c.in-Ok.ensures.none count c.in-Ok.ensures.least)

@@ -1,0 +1,5 @@
+use Rattle.std.proofs.Common.{rules}
+use Rattle.file_medium.proofs.memory_file.MemoryFile.least.Goals as goal
+
+pub returns : goal.returns
+returns c = search rules
