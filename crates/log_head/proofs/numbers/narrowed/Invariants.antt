@@ -1,0 +1,6 @@
+-- Each number that was gone over is there.
+use Rattle.std.proofs.Common.{◌≡◌, take}
+use Rattle.log_head.proofs.numbers.narrowed.Given as goal
+
+abbrev pub invariant-loop-number : goal.invariant-loop-number
+invariant-loop-number l = l.narrow.items ≡ take l.number-index l.numbers

@@ -1,0 +1,3 @@
+pub mod Horizons
+pub mod Heads
+pub mod Reading
