@@ -4,7 +4,10 @@
 
 use clap::error::ErrorKind;
 use clap::{Arg, ArgAction, ArgMatches, Command, Error};
-use escrow_script::{AuditEnd, ScriptFault, Watched, audit_text, run_script, work_text};
+use escrow_audit::{AuditEnd, audit_text};
+use escrow_run::run_script;
+use escrow_work::work_text;
+use script_input::{ScriptFault, Watched};
 use std::alloc::{AllocError, Global};
 use std::process::ExitCode;
 use std::rt::Env;

@@ -54,8 +54,9 @@ fn illegal_line(alloc: Global, at: u64, word: &str) -> Result<String, AllocError
     format!(in alloc; "illegal {at} {word}\n")
 }
 
-// The line that tells a verdict over so many entries.
-fn verdict_line(alloc: Global, verdict: Verdict, count: u64) -> Result<String, AllocError>
+/// The line that tells a verdict over so many entries: `legal N`, or `illegal AT RULE`. The error is want
+/// of memory.
+pub fn verdict_line(alloc: Global, verdict: Verdict, count: u64) -> Result<String, AllocError>
     ensures { IfOk result (λ text. string_bytes text ≡ verdict_text verdict count) }
 {
     match verdict {

@@ -8,6 +8,6 @@ mod reading;
 mod remark;
 mod taking;
 
-pub use answer::{AuditEnd, audit_text, rule_word};
+pub use answer::{AuditEnd, audit_text, rule_word, verdict_line};
 pub use laws::one_answer;
 pub use script_input::{CallFailed, End, ScriptFault, Sink, Source, Watched};

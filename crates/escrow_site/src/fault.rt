@@ -20,7 +20,7 @@ pub(crate) enum Why {
     NoName,
     #[error("is there already: create takes a path at which nothing is")]
     FolderThere,
-    #[error("isn't there: a site's folder is made by create")]
+    #[error("isn't there: look whether its disk is: a site's folder is made by create, once")]
     NoSite,
     #[error("isn't of escrow site 1 or 2: serve it by the version that made it")]
     OtherVersion,
@@ -34,7 +34,7 @@ pub(crate) enum Why {
     Settled,
     #[error("isn't there: put the newest log back; a site without it would sell again what it sold")]
     NoLog,
-    #[error("isn't the log of this site: put its own newest log back")]
+    #[error("isn't the log of this site, or is a later program's: serve it by that, or put its own newest log back")]
     OtherLog,
     #[error("line {0} is no record of this site: put its own newest log back")]
     BadRecord(u64),

@@ -1,41 +1,54 @@
 //! The command `judge`.
 
-ghost use Rattle.std.specs.Prelude.{◌≢◌, ◌≤◌, None, length};
-ghost use Rattle.std.specs.Io.{ReadsAtMost};
+ghost use Rattle.std.specs.Prelude.{◌≢◌, None};
 
 use crate::fault::{Fault, Why, failed, refused};
 use crate::progress::tell_reading;
 use crate::tracing::read_kept_entries;
 use crate::worlds::{SiteFolder, World, read_world};
-use field_bounds::{Entry, Schema, SiteNo};
+use field_bounds::SiteNo;
+use file_medium::FileFailed;
 use script_input::{Sink, Watched};
 use site_folder::trace_name;
-use site_trace::{TraceFault, TracedEntry, read_trace};
 use std::alloc::Global;
 use std::fs::File;
 use std::io;
 use std::io::ErrorKind;
 use std::os::unix::fs::FileExt;
-use woven_verdict::{Histories, Unread, Verdict, VerdictFault, judge_histories, verdict_line};
+use trace_windows::{ReadAt, TraceWindow, TraceWindows, WindowFault};
+use woven_verdict::{Verdict, VerdictFault, judge_histories, verdict_line};
 
 /// How many bytes of a trace are read at a time.
 const PIECE: usize = 65_536;
 
-/// The trace of a site, of which a window is held: the entries of the lines that were read last.
+/// The file of a trace, which keeps what the system told of a read that failed.
+///
+/// That it is read as `ReadAt` says is read, and not proved: no contract can see what it holds.
 #[derive(Drop)]
-struct TraceWindow {
-    path: String,
+struct HostTrace {
     file: File,
-    // How many bytes of the file were read.
-    read: u64,
-    // What was read behind the last line feed: the front of a line.
-    torn: Vec<u8>,
-    window: Vec<TracedEntry>,
-    // How many entries of the window were taken, and how many of all.
-    place: usize,
-    taken: u64,
-    // How many entries count that weren't taken, those of the window included.
-    left: usize,
+    fault: Option<io::Error>,
+}
+
+impl ReadAt for HostTrace {
+    ghost bytes = { λ _. None };
+
+    ghost has_failed = { λ f. f.fault ≢ None };
+
+    // A read is made again where a signal came in between.
+    fn read_at(&mut self, at: u64, buffer: &mut [u8]) -> Result<usize, FileFailed> {
+        for _ in 0..u64::MAX {
+            match self.file.read_at(buffer, at) {
+                Ok(count) => return Ok(count),
+                Err(error) if error.kind() == ErrorKind::Interrupted => {}
+                Err(error) => {
+                    self.fault = Some(error);
+                    return Err(FileFailed);
+                }
+            }
+        }
+        Ok(0)
+    }
 }
 
 // The file of a trace, opened to be read.
@@ -49,147 +62,38 @@ fn open_file(rt: &HostRuntime, path: &str) -> Result<File, Fault> {
     }
 }
 
-// One read at a place, which is made again where a signal came in between.
-fn read_piece(file: &File, piece: &mut [u8], at: u64) -> io::Result<usize>
-    ensures bound { ReadsAtMost result piece.new }
-{
-    for _ in 0..u64::MAX {
-        match file.read_at(piece, at) {
-            Err(error) if error.kind() == ErrorKind::Interrupted => {}
-            done => return done,
-        }
-    }
-    Ok(0)
-}
-
-impl TraceWindow {
-    // The next entry that counts.
-    fn upcoming(&self) -> Option<Entry> {
-        if self.left == 0 {
-            return None;
-        }
-        Some(self.window.get(self.place)?.entry)
-    }
-
-    // Reads one more piece of the file, and tells whether there was one.
-    fn read_on(&mut self, alloc: Global, piece: &mut [u8]) -> Result<bool, Fault> {
-        match read_piece(&self.file, piece, self.read) {
-            Ok(count) => {
-                self.torn.extend_from_slice(&piece[..count])?;
-                self.read = self.read.saturating_add(count as u64);
-                Ok(count > 0)
-            }
-            Err(error) => Err(failed(alloc, self.path.as_str(), error)),
-        }
-    }
-
-    // Makes the window anew, of the whole lines that were read.
-    fn move_on(&mut self, alloc: Global, schema: &Schema) -> Result<(), Fault> {
-        match read_trace(alloc, schema, self.torn.as_slice()) {
-            Ok(trace) => {
-                let whole = trace.length.min(self.torn.len());
-                self.torn = Vec::from_slice(alloc, &self.torn[whole..])?;
-                self.window = trace.entries;
-                self.place = 0;
-                Ok(())
-            }
-            Err(TraceFault::Line(_)) => Err(refused(alloc, self.path.as_str(), Why::OtherTrace)),
-            Err(TraceFault::NoMemory) => Err(Fault::NoMemory),
-        }
-    }
-
-    // Reads on until the next entry that counts is in the window. A trace that has come to be another
-    // one since its entries were counted is refused.
-    fn fill(&mut self, alloc: Global, schema: &Schema, piece: &mut [u8]) -> Result<(), Fault> {
-        for _ in 0..u64::MAX {
-            if self.left == 0 || self.place < self.window.len() {
-                return Ok(());
-            }
-            if !self.read_on(alloc, piece)? {
-                return Err(refused(alloc, self.path.as_str(), Why::TraceBehind));
-            }
-            self.move_on(alloc, schema)?;
-        }
-        Ok(())
-    }
-
-    // Takes the next entry.
-    fn take(&mut self, alloc: Global, schema: &Schema, piece: &mut [u8]) -> Result<(), Fault> {
-        self.place = self.place.saturating_add(1);
-        self.taken = self.taken.saturating_add(1);
-        self.left = self.left.saturating_sub(1);
-        self.fill(alloc, schema, piece)
+// Why the trace at a path isn't told to its end. One that has come to be another one since its entries
+// were counted is refused.
+fn window_fault(alloc: Global, path: &str, file: &mut HostTrace, fault: WindowFault) -> Fault {
+    match fault {
+        WindowFault::Read => match file.fault.take() {
+            Some(error) => failed(alloc, path, error),
+            None => Fault::Read,
+        },
+        WindowFault::Line => refused(alloc, path, Why::OtherTrace),
+        WindowFault::Behind => refused(alloc, path, Why::TraceBehind),
+        WindowFault::NoMemory => Fault::NoMemory,
     }
 }
 
-/// The traces of all sites of a world, in the order of the sites.
-#[derive(Drop)]
-struct TraceWindows<'a> {
-    alloc: Global,
-    schema: &'a Schema,
-    traces: Vec<TraceWindow>,
-    // Room for one read.
-    piece: Vec<u8>,
-    // Why a trace wasn't read on.
-    fault: Option<Fault>,
-    ghost few: { length traces.items ≤ 65535 },
-}
-
-// No contract can say what a file holds, so these traces are lists of no histories that a clause knows.
-impl Histories for TraceWindows<'_> {
-    ghost holds = { λ _ _ _. ⊥ };
-
-    ghost has_failed = { λ w. w.fault ≢ None };
-
-    fn sites(&self) -> u16 {
-        self.traces.len() as u16
-    }
-
-    fn upcoming(&self, site: u16) -> Option<Entry> {
-        self.traces.get(usize::from(site))?.upcoming()
-    }
-
-    fn next_number(&self, site: u16) -> u64 {
-        match self.traces.get(usize::from(site)) {
-            Some(trace) => trace.taken.saturating_add(1),
-            None => 0,
-        }
-    }
-
-    fn take(&mut self, site: u16) -> Result<(), Unread> {
-        let Some(trace) = self.traces.get_mut(usize::from(site)) else {
-            return Ok(());
-        };
-        match trace.take(self.alloc, self.schema, self.piece.as_mut_slice()) {
-            Ok(()) => Ok(()),
-            Err(fault) => {
-                self.fault = Some(fault);
-                Err(Unread)
-            }
-        }
-    }
-}
-
-// The trace of a folder, at its first entry. Its entries that count are counted first, so that it is
-// refused as it is by `weave`.
-fn open_trace(rt: &HostRuntime, folder: &SiteFolder) -> Result<TraceWindow, Fault> {
+// The trace of a folder, before anything of it is read. Its entries that count are counted first, so
+// that it is refused as it is by `weave`.
+fn open_trace(rt: &HostRuntime, folder: &SiteFolder) -> Result<TraceWindow<HostTrace>, Fault> {
     let alloc = rt.alloc();
-    let left = read_kept_entries(rt, alloc, &folder.paths, &folder.identity)?.len();
+    let count = read_kept_entries(rt, alloc, &folder.paths, &folder.identity)?.len();
     let name = trace_name(alloc, &folder.identity)?;
-    Ok(TraceWindow {
-        path: String::from_str(alloc, folder.paths.trace.as_str())?,
+    let file = HostTrace {
         file: open_file(rt, folder.paths.trace.as_str())?,
-        read: name.len() as u64,
-        torn: Vec::new(alloc),
-        window: Vec::new(alloc),
-        place: 0,
-        taken: 0,
-        left,
-    })
+        fault: None,
+    };
+    Ok(TraceWindow::new(alloc, file, name.len() as u64, count))
 }
 
 // The traces of all sites, each at its first entry.
-fn open_traces<'a>(rt: &HostRuntime, world: &'a World) -> Result<TraceWindows<'a>, Fault> {
+fn open_traces<'a>(
+    rt: &HostRuntime,
+    world: &'a World,
+) -> Result<TraceWindows<'a, HostTrace>, Fault> {
     let alloc = rt.alloc();
     let mut piece = vec![in alloc; 0u8; PIECE]?;
     let mut traces = Vec::new(alloc);
@@ -198,25 +102,37 @@ fn open_traces<'a>(rt: &HostRuntime, world: &'a World) -> Result<TraceWindows<'a
         let folder = world.named_folder(site)?;
         tell_reading(rt, folder.paths.folder.as_str(), site, world.schema.sites());
         let mut trace = open_trace(rt, folder)?;
-        trace.fill(alloc, &world.schema, piece.as_mut_slice())?;
+        if let Err(fault) = trace.fill(alloc, &world.schema, piece.as_mut_slice()) {
+            let path = folder.paths.trace.as_str();
+            return Err(window_fault(alloc, path, trace.file_mut(), fault));
+        }
         traces.push(trace)?;
     }
-    Ok(TraceWindows {
-        alloc,
-        schema: &world.schema,
-        traces,
-        piece,
-        fault: None,
-    })
+    Ok(TraceWindows::new(alloc, &world.schema, traces, piece))
+}
+
+// Why a trace wasn't read on.
+fn why_unread(alloc: Global, world: &World, windows: &mut TraceWindows<'_, HostTrace>) -> Fault {
+    let Some((site, fault)) = windows.fault() else {
+        return Fault::Read;
+    };
+    let Some(folder) = world.folder(SiteNo(site)) else {
+        return Fault::NoFolder(site);
+    };
+    let Some(trace) = windows.trace_mut(site) else {
+        return Fault::Read;
+    };
+    window_fault(alloc, folder.paths.trace.as_str(), trace.file_mut(), fault)
 }
 
 // The verdict on the woven trace of all sites, and how many entries were judged for it.
 fn judge_sites(rt: &HostRuntime, world: &World) -> Result<(Verdict, u64), Fault> {
-    let mut traces = open_traces(rt, world)?;
-    match judge_histories(rt.alloc(), &world.schema, &mut traces) {
+    let alloc = rt.alloc();
+    let mut windows = open_traces(rt, world)?;
+    match judge_histories(alloc, &world.schema, &mut windows) {
         Ok(told) => Ok(told),
         Err(VerdictFault::Stuck { site, number }) => Err(Fault::Stuck(site.0, number)),
-        Err(VerdictFault::Unread) => Err(traces.fault.take().unwrap_or(Fault::Read)),
+        Err(VerdictFault::Unread) => Err(why_unread(alloc, world, &mut windows)),
         Err(VerdictFault::NoMemory) => Err(Fault::NoMemory),
     }
 }

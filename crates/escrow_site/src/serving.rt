@@ -16,6 +16,7 @@ use crate::reading::ReadsFiles;
 use crate::tracing::trace_for;
 use crate::unsynced::{TellsFault, UnsyncedFile};
 use file_medium::{FileFault, HostFile, LogFile};
+use file_swap::HeadedLog;
 use log_stand::{Stand, stand_of};
 use script_input::{Sink, Source, Watched};
 use sealed_log::SealedLog;
@@ -215,7 +216,7 @@ fn sealed_fault<F: TellsFault>(
 }
 
 // Serves the site over a log of closed batches.
-fn serve_batches<L: LogFile, F: TellsFault>(
+fn serve_batches<L: HeadedLog, F: TellsFault>(
     rt: &HostRuntime,
     paths: &Paths,
     identity: &Identity,

@@ -1,5 +1,5 @@
 -- What workers are asked, what they make of it, and what is written (this project).
-use Rattle.std.specs.Prelude.{◌≡◌, ◌≢◌, ℕ, ◌⊎◌, List, [], ◌∷◌, ◌++◌, reverse, Option}
+use Rattle.std.specs.Prelude.{◌≡◌, ◌≢◌, ◌<◌, ℕ, ◌⊎◌, List, [], ◌∷◌, ◌++◌, reverse, Option, IfSome}
 use Rattle.std.specs.Io.KnownBytes.{Appends, Consumes}
 use Rattle.field_bounds.specs.Schema.{SchemaValue}
 use Rattle.field_bounds.specs.Central.{IsCentral}
@@ -13,6 +13,8 @@ use Rattle.central_rules.specs.Verdict.{verdict_of}
 use Rattle.work_faults.specs.declared.workers.WorkFault.{WorkFault}
 use Rattle.work_faults.specs.declared.workers.WorkFault.TheVariants as work_faults
 use Rattle.site_workers.specs.Scripts.{AllWorked}
+use Rattle.site_workers.specs.Faults.{TurnsNone, TellsForeign, TellsLost, TellsDiffers, TellsTurned, site_named}
+use Rattle.site_workers.specs.Jobs.{TellsFirst}
 use Rattle.trace_weave.specs.Weave.{WeavesLowest, NoneWeaves}
 use Rattle.script_input.specs.declared.fault.ScriptFault.{ScriptFault}
 use Rattle.script_input.specs.declared.fault.ScriptFault.TheVariants as faults
@@ -111,15 +113,17 @@ pub record IsAsked (schema : SchemaValue) (scripts : List (List Command)) (read 
   pub within : IsWithin read
   pub at : ended
 
--- Want of memory in the work is told as such, and its gate, which is free, turns no call away.
-abbrev pub IsWorkFault : WorkFault → Type 0
-IsWorkFault work_faults.GateTurns = ⊥
-IsWorkFault (work_faults.WentBack site length) = Unit {0}
-IsWorkFault (work_faults.Passes site) = Unit {0}
-IsWorkFault (work_faults.Receipts fault) = Unit {0}
-IsWorkFault (work_faults.Foreign site) = Unit {0}
-IsWorkFault (work_faults.Lost site) = Unit {0}
-IsWorkFault work_faults.NoMemory = ⊥
+-- What a fault of the work says of workers of these scripts, as a run of them tells it: that of the lowest site that has one; or
+-- histories that such workers may make, of which the site that it names shows it. Their gate, which is free, turns no call away, and
+-- want of memory is told as such.
+pub record IsWorkFault (schema : SchemaValue) (scripts : List (List Command)) (fault : WorkFault) : Type 0 where
+  pub known : fault ≢ work_faults.NoMemory
+  pub first : TellsFirst schema TurnsNone scripts fault
+  pub foreign : TellsForeign schema scripts fault
+  pub lost : TellsLost schema scripts fault
+  pub receipts : TellsDiffers schema fault
+  pub turned : TellsTurned schema TurnsNone fault
+  pub site : IfSome (site_named fault) (λ site. site.0 < schema.sites)
 
 -- What a fault says of the bytes that were read. A write fault says it by what is written, and that a verdict is other than
 -- Legal never comes.
@@ -129,8 +133,8 @@ TellsOf faults.TooLong read ended = FaultIn faults.TooLong read ended
 TellsOf faults.Write read ended = ⊥
 TellsOf (faults.Header fault) read ended = FaultIn (faults.Header fault) read ended
 TellsOf (faults.BadLine number) read ended = FindsBad read number ended
-TellsOf (faults.Work fault) read ended = IsWorkFault fault × ((schema : SchemaValue) × ((scripts : List (List Command))
-    × IsAsked schema scripts read ended))
+TellsOf (faults.Work fault) read ended = (schema : SchemaValue) × ((scripts : List (List Command)) × (IsAsked schema scripts read ended
+    × IsWorkFault schema scripts fault))
 TellsOf faults.Stuck read ended = (schema : SchemaValue) × ((scripts : List (List Command)) × (IsAsked schema scripts read ended
     × Sticks schema scripts))
 TellsOf faults.Illegal read ended = ⊥
@@ -143,7 +147,7 @@ MakesNone schema scripts faults.TooLong = ⊥
 MakesNone schema scripts faults.Write = ⊥
 MakesNone schema scripts (faults.Header fault) = ⊥
 MakesNone schema scripts (faults.BadLine number) = ⊥
-MakesNone schema scripts (faults.Work fault) = IsWorkFault fault
+MakesNone schema scripts (faults.Work fault) = IsWorkFault schema scripts fault
 MakesNone schema scripts faults.Stuck = Sticks schema scripts
 MakesNone schema scripts faults.Illegal = ⊥
 MakesNone schema scripts faults.NoMemory = Unit {0}

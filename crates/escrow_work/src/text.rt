@@ -76,10 +76,11 @@ fn answer<R: Source>(
 /// byte follows the 1,000,000th line or the 268,435,456th byte; `Read` where a read answers an
 /// error of any kind, which isn't tried again; `BadLine` at the first line that is no such
 /// command, as any line of more than 256 bytes, behind which nothing is read. Then those of the
-/// work: `Work` where the workers come to a fault, `Stuck` where no trace weaves their histories;
-/// `Illegal` never comes. At each of them nothing is written. At `NoMemory` each line that ends in
-/// front of the last 65,536 bytes that were read is such a command. `Write` comes where a write
-/// answers an error of any kind or takes no byte; then a front of such a text was written.
+/// work: `Work` where the workers come to a fault, which says of scripts that the input holds what
+/// `run_workers` says of it, `Stuck` where no trace weaves their histories; `Illegal` never comes.
+/// At each of them nothing is written. At `NoMemory` each line that ends in front of the last 65,536
+/// bytes that were read is such a command. `Write` comes where a write answers an error of any kind
+/// or takes no byte; then a front of such a text was written.
 ///
 /// Reader and writer tell the contract how their calls end, and how many failed; `Watched::new`
 /// makes such ones of std's. No call is made again after one that failed.

@@ -73,11 +73,12 @@ module _ (schema : SchemaValue) (before later : SiteValue) (command : Command) (
 
 -- a session over whole lines, of a copy of the schema and of the bytes
 pub opened_by : (schema own : SchemaValue) (number : SiteNo) (lines bytes : List ℕ) (site : SiteValue) → own ≡ schema → bytes ≡ lines
-    → last_part lines ≡ [] → Opens own number bytes 0 site → site.foretold ≡ Some Never → IsSoundSession schema site
-opened_by schema own number lines bytes site same copied whole opens never =
+    → last_part lines ≡ [] → Opens own number bytes 0 site → site.foretold ≡ Some Never → site.gone ≡ []
+    → IsSoundSession schema site
+opened_by schema own number lines bytes site same copied whole opens never none_gone =
     let here : Opens schema number lines 0 site = subst (λ (held : List ℕ). Opens schema number held 0 site) copied
     (subst (λ (s : SchemaValue). Opens s number bytes 0 site) same opens) in
-    record { own = sym here.schema; whole = whole_opened schema number lines 0 site here whole never; clear = here.doubt }
+    record { own = sym here.schema; whole = whole_opened schema number lines 0 site here whole never none_gone; clear = here.doubt }
 
 -- the first bad line, by copies
 pub bad_by : (schema own : SchemaValue) (s : ℕ) (lines bytes : List ℕ) (fault : OpenFault) (n : ℕ) → own ≡ schema → bytes ≡ lines

@@ -21,7 +21,7 @@ use Rattle.site_handle.specs.declared.fault.OpeningFault.TheVariants as openings
 use Rattle.site_handle.specs.declared.fault.CallFault.{CallFault}
 use Rattle.site_handle.specs.declared.fault.CallFault.TheVariants as calls
 
--- What holds of every session: its schema is the site's, the log is whole lines, and no answer is in doubt.
+-- What holds of every session: its schema is the site's, the log is whole lines, of which none is gone, and no answer is in doubt.
 pub record IsSoundSession (schema : SchemaValue) (v : SiteValue) : Type 0 where
   pub own : schema ≡ v.schema
   pub whole : IsWhole v

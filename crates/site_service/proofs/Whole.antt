@@ -87,6 +87,7 @@ grows_by before later command reply applies whole =
     record {
       whole = record {
         never = call_stays before later command reply whole.never applies;
+        held = applies.same.gone ∙ whole.held;
         records = more;
         log = subst (Holds later.schema later.site.0 later.bytes more) none logs.log;
       };
@@ -102,14 +103,19 @@ grows_same before later same whole =
 
 -- a site that was opened over whole lines
 pub whole_opened : (schema : SchemaValue) (number : SiteNo) (held : List ℕ) (count : ℕ) (v : SiteValue) → Opens schema number held count v
-    → last_part held ≡ [] → v.foretold ≡ Some Never → IsWhole v
-whole_opened schema number held count v opens whole never =
+    → last_part held ≡ [] → v.foretold ≡ Some Never → v.gone ≡ [] → IsWhole v
+whole_opened schema number held count v opens whole never none_gone =
     let none : opens.rest ≡ [] = sym (rest_is_last held v.based opens.rest opens.based) ∙ whole in
     let log : IsLog v.bytes v.based [] = subst (λ (bytes : List ℕ). IsLog bytes v.based []) (sym opens.bytes)
     (subst (IsLog held v.based) none opens.based) in
     let lawful : Lawful v.schema v.site.0 v.based = subst (λ (s : SiteNo). Lawful v.schema s.0 v.based) (sym opens.site)
     (subst (λ (s : SchemaValue). Lawful s number.0 v.based) (sym opens.schema) opens.lawful) in
-    record { never = never; records = plain v.based; log = record { all = v.based; log = log; lawful = lawful; told = refl } }
+    record {
+      never = never;
+      held = none_gone;
+      records = plain v.based;
+      log = record { all = v.based; log = log; lawful = lawful; told = refl };
+    }
 
 -- what it holds is a log
 pub whole_kept : (v : SiteValue) → IsWhole v → IsKept v.bytes

@@ -42,9 +42,10 @@ value_of site last lines waiting log safe least settled lost =
 
 -- ---- the link between the medium and the log
 
--- The site stands on a medium that never fails, and that holds lawful records and nothing behind them.
+-- The site stands on a medium that never fails, and that holds lawful records and nothing behind them: none is gone.
 pub record IsWhole (v : SiteValue) : Type 0 where
   pub never : v.foretold ≡ Some Never
+  pub held : v.gone ≡ []
   pub records : List Record
   pub log : Holds v.schema v.site.0 v.bytes records []
 

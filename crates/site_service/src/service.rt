@@ -183,6 +183,7 @@ impl<F: LogFile> Service<F> {
     /// The site, to be looked at. Costs no memory.
     pub fn site(&self) -> &Site<MemoryMedium, GhostHistory<Entry>>
         ensures value { result.now ≡ self.now.served.site }
+        ensures whole { result.now.gone ≡ [] }
     {
         &self.site
     }

@@ -5,7 +5,9 @@ use crate::dice::Dice;
 use crate::digest::Digest;
 use crate::kinds::{Kind, Plan, add_round, script_of};
 use crate::script::Script;
-use escrow_script::{Watched, audit_text, run_script};
+use escrow_audit::audit_text;
+use escrow_run::run_script;
+use script_input::Watched;
 use std::alloc::{AllocError, Global};
 use std::thread::Threads;
 

@@ -3,7 +3,10 @@
 //! tells whether each site did its own lines in their order, and how the whole is judged.
 #![tactic(auto)]
 
-use escrow_script::{Watched, audit_text, run_script, work_text};
+use escrow_audit::audit_text;
+use escrow_run::run_script;
+use escrow_work::work_text;
+use script_input::Watched;
 use std::alloc::{AllocError, Global};
 use std::sync::Wait;
 use std::thread::Threads;

@@ -8,13 +8,12 @@ mod judged;
 mod judging;
 mod laws;
 mod listed;
-mod text;
 mod turn;
 
 pub use central_rules::{Rule, Verdict};
+pub use escrow_audit::verdict_line;
 pub use fault::{Unread, VerdictFault};
 pub use histories::Histories;
 pub use judging::{judge_histories, judge_woven};
 pub use laws::woven_trace_is_one;
 pub use listed::ListedHistories;
-pub use text::verdict_line;

@@ -6,11 +6,12 @@ use Rattle.site_service.specs.Index.{IsIndexOf}
 use Rattle.site_service.proofs.Index.{index_grows}
 use Rattle.site_service.proofs.Whole.{grows_same, whole_kept}
 use Rattle.site_service.proofs.Told.{any_err, left_still, told_refused, told_committed, left_committed}
+use Rattle.site_step.proofs.Prefixes.{held_whole}
 use Rattle.site_service.proofs.answering.answer_commit.Goals as goal
 
 pub kept_with-requires : goal.kept_with-requires
 kept_with-requires c =
-    let is : c.bytes.result.now ≡ c.args.site.now.bytes = c.bytes.ensures.bytes ∙ c.medium.ensures.bytes in
+    let is : c.bytes.result.now ≡ c.args.site.now.bytes = c.bytes.ensures.bytes ∙ held_whole c.args.site.now c.requires.whole.held c.medium.ensures.bytes in
     record {
       index = subst (IsIndexOf c.args.kept.now) (sym is) c.requires.index;
       log = subst IsKept (sym is) (whole_kept c.args.site.now c.requires.whole);
@@ -25,12 +26,12 @@ returns-in_err-found-clause-grows c = grows_same c.args.site.now c.args.site.now
 
 pub returns-in_err-found-clause-index : goal.returns-in_err-found-clause-index
 returns-in_err-found-clause-index c =
-    let is : c.bytes.result.now ≡ c.args.site.now.bytes = c.bytes.ensures.bytes ∙ c.medium.ensures.bytes in
+    let is : c.bytes.result.now ≡ c.args.site.now.bytes = c.bytes.ensures.bytes ∙ held_whole c.args.site.now c.requires.whole.held c.medium.ensures.bytes in
     subst (IsIndexOf c.kept_with.new.kept) is c.kept_with.ensures.index
 
 pub returns-in-Some-clause-ok : goal.returns-in-Some-clause-ok
 returns-in-Some-clause-ok c = λ count number.
-    let is : c.bytes.result.now ≡ c.args.site.now.bytes = c.bytes.ensures.bytes ∙ c.medium.ensures.bytes in
+    let is : c.bytes.result.now ≡ c.args.site.now.bytes = c.bytes.ensures.bytes ∙ held_whole c.args.site.now c.requires.whole.held c.medium.ensures.bytes in
     let tells : TellsKey c.args.site.now.bytes c.args.keys.now.last c.args.key.bytes.now (Some c.in-Some.other) =
     subst (TellsKey c.args.site.now.bytes c.args.keys.now.last c.args.key.bytes.now) c.in-Some.is
     (subst (λ (b : List ℕ). TellsKey b c.args.keys.now.last c.args.key.bytes.now c.in_ok-found.found) is c.in_ok-found.ensures.kept) in
@@ -48,12 +49,12 @@ returns-in-Some-clause-grows c = grows_same c.args.site.now c.args.site.now refl
 
 pub returns-in-Some-clause-index : goal.returns-in-Some-clause-index
 returns-in-Some-clause-index c =
-    let is : c.bytes.result.now ≡ c.args.site.now.bytes = c.bytes.ensures.bytes ∙ c.medium.ensures.bytes in
+    let is : c.bytes.result.now ≡ c.args.site.now.bytes = c.bytes.ensures.bytes ∙ held_whole c.args.site.now c.requires.whole.held c.medium.ensures.bytes in
     subst (IsIndexOf c.kept_with.new.kept) is c.kept_with.ensures.index
 
 pub returns-in-None-clause-ok : goal.returns-in-None-clause-ok
 returns-in-None-clause-ok c = λ count number.
-    let is : c.bytes.result.now ≡ c.args.site.now.bytes = c.bytes.ensures.bytes ∙ c.medium.ensures.bytes in
+    let is : c.bytes.result.now ≡ c.args.site.now.bytes = c.bytes.ensures.bytes ∙ held_whole c.args.site.now c.requires.whole.held c.medium.ensures.bytes in
     let tells : TellsKey c.args.site.now.bytes c.args.keys.now.last c.args.key.bytes.now None =
     subst (TellsKey c.args.site.now.bytes c.args.keys.now.last c.args.key.bytes.now) c.in-None.is
     (subst (λ (b : List ℕ). TellsKey b c.args.keys.now.last c.args.key.bytes.now c.in_ok-found.found) is c.in_ok-found.ensures.kept) in
@@ -64,7 +65,7 @@ returns-in-None-clause-ok c = λ count number.
 
 pub returns-in-None-clause-left : goal.returns-in-None-clause-left
 returns-in-None-clause-left c = λ count number.
-    let is : c.bytes.result.now ≡ c.args.site.now.bytes = c.bytes.ensures.bytes ∙ c.medium.ensures.bytes in
+    let is : c.bytes.result.now ≡ c.args.site.now.bytes = c.bytes.ensures.bytes ∙ held_whole c.args.site.now c.requires.whole.held c.medium.ensures.bytes in
     let tells : TellsKey c.args.site.now.bytes c.args.keys.now.last c.args.key.bytes.now None =
     subst (TellsKey c.args.site.now.bytes c.args.keys.now.last c.args.key.bytes.now) c.in-None.is
     (subst (λ (b : List ℕ). TellsKey b c.args.keys.now.last c.args.key.bytes.now c.in_ok-found.found) is c.in_ok-found.ensures.kept) in
@@ -77,7 +78,7 @@ returns-in-None-clause-grows c = c.commit_spelled.ensures.grows c.requires.whole
 
 pub returns-in-None-clause-index : goal.returns-in-None-clause-index
 returns-in-None-clause-index c =
-    let is : c.bytes.result.now ≡ c.args.site.now.bytes = c.bytes.ensures.bytes ∙ c.medium.ensures.bytes in
+    let is : c.bytes.result.now ≡ c.args.site.now.bytes = c.bytes.ensures.bytes ∙ held_whole c.args.site.now c.requires.whole.held c.medium.ensures.bytes in
     let grows = c.commit_spelled.ensures.grows c.requires.whole in
     index_grows c.kept_with.new.kept c.args.site.now.bytes c.commit_spelled.new.site.bytes grows.added
     (subst (IsIndexOf c.kept_with.new.kept) is c.kept_with.ensures.index) grows.bytes

@@ -8,6 +8,7 @@ use Rattle.site_service.specs.Answers.{AsksCommit}
 use Rattle.site_service.proofs.Index.{index_grows}
 use Rattle.site_service.proofs.Whole.{grows_same, whole_kept}
 use Rattle.site_service.proofs.Told.{told_command, left_command, left_still, told_commit, told_key, told_bad, told_long, any_err}
+use Rattle.site_step.proofs.Prefixes.{held_whole}
 use Rattle.site_service.proofs.answering.answer_line.Goals as goal
 
 -- ---- a command
@@ -55,7 +56,7 @@ returns-in-Ok-Commit-clause-long c = λ count whole long more. absurd (omega (ar
 
 pub tell_commit-requires : goal.tell_commit-requires
 tell_commit-requires c =
-    let is : c.bytes.result.now ≡ c.args.site.now.bytes = c.bytes.ensures.bytes ∙ c.medium.ensures.bytes in
+    let is : c.bytes.result.now ≡ c.args.site.now.bytes = c.bytes.ensures.bytes ∙ held_whole c.args.site.now c.requires.whole.held c.medium.ensures.bytes in
     record {
       index = subst (IsIndexOf c.args.kept.now) (sym is) c.requires.index;
       log = subst IsKept (sym is) (whole_kept c.args.site.now c.requires.whole);
@@ -64,7 +65,7 @@ tell_commit-requires c =
 pub returns-in-Ok-Kept-clause-ok : goal.returns-in-Ok-Kept-clause-ok
 returns-in-Ok-Kept-clause-ok c = λ count.
     let asks = rw c.in-Ok-Kept.field-0-is at c.in-Ok-Kept.ensures.ok in
-    let is : c.bytes.result.now ≡ c.args.site.now.bytes = c.bytes.ensures.bytes ∙ c.medium.ensures.bytes in
+    let is : c.bytes.result.now ≡ c.args.site.now.bytes = c.bytes.ensures.bytes ∙ held_whole c.args.site.now c.requires.whole.held c.medium.ensures.bytes in
     on_ok_weaker c.tell_commit.result
     (λ told. told_commit c.args.schema.now c.site.result c.args.site.now c.requires.schema c.site.ensures.value c.args.keys.now.last count c.args.number c.args.out.now.items
     c.tell_commit.new.out.items c.args.line.now c.in-Ok-Kept.txn asks
@@ -81,14 +82,14 @@ returns-in-Ok-Kept-clause-grows c = grows_same c.args.site.now c.args.site.now r
 
 pub returns-in-Ok-Kept-clause-index : goal.returns-in-Ok-Kept-clause-index
 returns-in-Ok-Kept-clause-index c =
-    let is : c.bytes.result.now ≡ c.args.site.now.bytes = c.bytes.ensures.bytes ∙ c.medium.ensures.bytes in
+    let is : c.bytes.result.now ≡ c.args.site.now.bytes = c.bytes.ensures.bytes ∙ held_whole c.args.site.now c.requires.whole.held c.medium.ensures.bytes in
     subst (IsIndexOf c.tell_commit.new.kept) is c.tell_commit.ensures.index
 
 -- ---- a question for a key
 
 pub tell_key-requires : goal.tell_key-requires
 tell_key-requires c =
-    let is : c.bytes-in-Ok-KeptKey.result.now ≡ c.args.site.now.bytes = c.bytes-in-Ok-KeptKey.ensures.bytes ∙ c.medium-in-Ok-KeptKey.ensures.bytes in
+    let is : c.bytes-in-Ok-KeptKey.result.now ≡ c.args.site.now.bytes = c.bytes-in-Ok-KeptKey.ensures.bytes ∙ held_whole c.args.site.now c.requires.whole.held c.medium-in-Ok-KeptKey.ensures.bytes in
     record {
       index = subst (IsIndexOf c.args.kept.now) (sym is) c.requires.index;
       log = subst IsKept (sym is) (whole_kept c.args.site.now c.requires.whole);
@@ -97,7 +98,7 @@ tell_key-requires c =
 pub returns-in-Ok-KeptKey-clause-ok : goal.returns-in-Ok-KeptKey-clause-ok
 returns-in-Ok-KeptKey-clause-ok c = λ count.
     let asks = rw c.in-Ok-KeptKey.field-0-is at c.in-Ok-KeptKey.ensures.ok in
-    let is : c.bytes-in-Ok-KeptKey.result.now ≡ c.args.site.now.bytes = c.bytes-in-Ok-KeptKey.ensures.bytes ∙ c.medium-in-Ok-KeptKey.ensures.bytes in
+    let is : c.bytes-in-Ok-KeptKey.result.now ≡ c.args.site.now.bytes = c.bytes-in-Ok-KeptKey.ensures.bytes ∙ held_whole c.args.site.now c.requires.whole.held c.medium-in-Ok-KeptKey.ensures.bytes in
     on_ok_weaker c.tell_key.result
     (λ told. told_key c.args.schema.now c.site.result c.args.site.now c.requires.schema c.site.ensures.value c.args.keys.now.last count c.args.number c.args.out.now.items
     c.tell_key.new.out.items c.args.line.now c.in-Ok-KeptKey.key.bytes.now asks
@@ -114,7 +115,7 @@ returns-in-Ok-KeptKey-clause-grows c = grows_same c.args.site.now c.args.site.no
 
 pub returns-in-Ok-KeptKey-clause-index : goal.returns-in-Ok-KeptKey-clause-index
 returns-in-Ok-KeptKey-clause-index c =
-    let is : c.bytes-in-Ok-KeptKey.result.now ≡ c.args.site.now.bytes = c.bytes-in-Ok-KeptKey.ensures.bytes ∙ c.medium-in-Ok-KeptKey.ensures.bytes in
+    let is : c.bytes-in-Ok-KeptKey.result.now ≡ c.args.site.now.bytes = c.bytes-in-Ok-KeptKey.ensures.bytes ∙ held_whole c.args.site.now c.requires.whole.held c.medium-in-Ok-KeptKey.ensures.bytes in
     subst (IsIndexOf c.tell_key.new.kept) is c.tell_key.ensures.index
 
 -- ---- a line that asks nothing

@@ -6,12 +6,13 @@ use Rattle.site_service.specs.Index.{IsIndexOf}
 use Rattle.site_service.specs.Service.{ServiceValue}
 use Rattle.site_service.proofs.Links.{sound_looked}
 use Rattle.site_service.proofs.Whole.{whole_kept}
+use Rattle.site_step.proofs.Prefixes.{held_whole}
 use Rattle.site_service.proofs.service.Service.kept_key.Goals as goal
 
 pub kept_with-requires : goal.kept_with-requires
 kept_with-requires g c =
     let s = c.self.inside in
-    let is : c.bytes.result.now ≡ s.site.bytes = c.bytes.ensures.bytes ∙ c.medium.ensures.bytes in
+    let is : c.bytes.result.now ≡ s.site.bytes = c.bytes.ensures.bytes ∙ held_whole c.self.inside.site c.self.invariant.linked.whole.held c.medium.ensures.bytes in
     record {
       index = subst (IsIndexOf s.kept) (sym is) c.self.invariant.index;
       log = subst IsKept (sym is) (whole_kept s.site c.self.invariant.linked.whole);
@@ -19,7 +20,7 @@ kept_with-requires g c =
 
 pub returns-clause-kept : goal.returns-clause-kept
 returns-clause-kept g c =
-    let is : c.bytes.result.now ≡ c.args.self.now.served.site.bytes = c.bytes.ensures.bytes ∙ c.medium.ensures.bytes
+    let is : c.bytes.result.now ≡ c.args.self.now.served.site.bytes = c.bytes.ensures.bytes ∙ held_whole c.self.inside.site c.self.invariant.linked.whole.held c.medium.ensures.bytes
     ∙ ap (λ (v : ServiceValue). v.served.site.bytes) c.self.view_is in
     let last = ap (λ (v : ServiceValue). v.served.last) c.self.view_is in
     IfOk-weaker c.kept_with.result _ _
@@ -29,6 +30,6 @@ returns-clause-kept g c =
 pub invariant_of-self : goal.invariant_of-self
 invariant_of-self g c =
     let s = c.self.inside in
-    let is : c.bytes.result.now ≡ s.site.bytes = c.bytes.ensures.bytes ∙ c.medium.ensures.bytes in
+    let is : c.bytes.result.now ≡ s.site.bytes = c.bytes.ensures.bytes ∙ held_whole c.self.inside.site c.self.invariant.linked.whole.held c.medium.ensures.bytes in
     sound_looked s.schema s.site s.keys.last s.lines s.waiting.items (g.F.LogFile.bytes s.log) (g.F.LogFile.safe s.log) (g.F.LogFile.least s.log) s.settled
     s.lost s.kept s.keys.lines c.self.invariant c.kept_with.new.kept (subst (IsIndexOf c.kept_with.new.kept) is c.kept_with.ensures.index)

@@ -4,12 +4,13 @@ use Rattle.std.specs.Io.KnownBytes.{append_known}
 use Rattle.site_service.specs.Service.{ServiceValue, AddsNotesFirst, IsSettled}
 use Rattle.file_medium.specs.Copies.{IsCopyOf}
 use Rattle.site_service.proofs.Links.{sound_follows, settled_follows, sound_lost, settled_all, adds_first, adds_nothing, front_safe}
+use Rattle.site_step.proofs.Prefixes.{held_whole}
 use Rattle.site_service.proofs.service.Service.settle.Goals as goal
 
 pub invariant_of-self : goal.invariant_of-self
 invariant_of-self g c =
     let s = c.self.inside in
-    let is : c.bytes-held.result.now ≡ s.site.bytes = c.bytes-held.ensures.bytes ∙ c.medium.ensures.bytes in
+    let is : c.bytes-held.result.now ≡ s.site.bytes = c.bytes-held.ensures.bytes ∙ held_whole c.self.inside.site c.self.invariant.linked.whole.held c.medium.ensures.bytes in
     let rest = take_rest c.bytes-held.result.now s.settled ∙ ap (drop s.settled) is in
     let grown : g.F.LogFile.bytes c.add_both.new.file
     ≡ append_known (append_known (g.F.LogFile.bytes s.log) s.keys.lines) (drop s.settled s.site.bytes) =
@@ -23,7 +24,7 @@ invariant_of-self g c =
 pub returns-in-Ok-clause-ok : goal.returns-in-Ok-clause-ok
 returns-in-Ok-clause-ok g c =
     let s = c.self.inside in
-    let is : c.bytes-held.result.now ≡ s.site.bytes = c.bytes-held.ensures.bytes ∙ c.medium.ensures.bytes in
+    let is : c.bytes-held.result.now ≡ s.site.bytes = c.bytes-held.ensures.bytes ∙ held_whole c.self.inside.site c.self.invariant.linked.whole.held c.medium.ensures.bytes in
     let rest = take_rest c.bytes-held.result.now s.settled ∙ ap (drop s.settled) is in
     let grown : g.F.LogFile.bytes c.add_both.new.file
     ≡ append_known (append_known (g.F.LogFile.bytes s.log) s.keys.lines) (drop s.settled s.site.bytes) =
@@ -36,7 +37,7 @@ returns-in-Ok-clause-ok g c =
 pub returns-in-Ok-clause-order : goal.returns-in-Ok-clause-order
 returns-in-Ok-clause-order g c = λ text log.
     let s = c.self.inside in
-    let is : c.bytes-held.result.now ≡ s.site.bytes = c.bytes-held.ensures.bytes ∙ c.medium.ensures.bytes in
+    let is : c.bytes-held.result.now ≡ s.site.bytes = c.bytes-held.ensures.bytes ∙ held_whole c.self.inside.site c.self.invariant.linked.whole.held c.medium.ensures.bytes in
     let rest = take_rest c.bytes-held.result.now s.settled ∙ ap (drop s.settled) is in
     let grown : g.F.LogFile.bytes c.add_both.new.file
     ≡ append_known (append_known (g.F.LogFile.bytes s.log) s.keys.lines) (drop s.settled s.site.bytes) =
@@ -49,7 +50,7 @@ returns-in-Ok-clause-order g c = λ text log.
 pub returns-then-is_logged-clause-order : goal.returns-then-is_logged-clause-order
 returns-then-is_logged-clause-order g c = λ text log.
     let s = c.self.inside in
-    let is : c.bytes-held.result.now ≡ s.site.bytes = c.bytes-held.ensures.bytes ∙ c.medium.ensures.bytes in
+    let is : c.bytes-held.result.now ≡ s.site.bytes = c.bytes-held.ensures.bytes ∙ held_whole c.self.inside.site c.self.invariant.linked.whole.held c.medium.ensures.bytes in
     adds_nothing c.args.self.now text
     (subst (λ (v : ServiceValue). v.settled ≡ length v.served.site.bytes) c.self.view_is (c.if-self-all.true ∙ ap length is)) log
 
@@ -69,7 +70,7 @@ invariant_of-self-in-Err g c =
 pub returns-then-is_logged-clause-ok : goal.returns-then-is_logged-clause-ok
 returns-then-is_logged-clause-ok g c =
     let s = c.self.inside in
-    let is : c.bytes-held.result.now ≡ s.site.bytes = c.bytes-held.ensures.bytes ∙ c.medium.ensures.bytes in
+    let is : c.bytes-held.result.now ≡ s.site.bytes = c.bytes-held.ensures.bytes ∙ held_whole c.self.inside.site c.self.invariant.linked.whole.held c.medium.ensures.bytes in
     subst IsSettled c.self.view_is
     (settled_all s.schema s.site s.keys.last s.lines s.waiting.items (g.F.LogFile.bytes s.log) (g.F.LogFile.safe s.log) (g.F.LogFile.least s.log) s.settled
     s.lost s.kept s.keys.lines c.self.invariant c.if-self.false (c.if-self-all.true ∙ ap length is) (c.is_logged.ensures.none c.if-is_logged.true))

@@ -1,13 +1,14 @@
 use Rattle.std.proofs.Common.{length, refl, sym, ap, subst, ◌∙◌}
 use Rattle.site_service.specs.Opening.{IsSafe}
 use Rattle.site_service.proofs.Links.{sound_opened, is_started, copy_safe}
+use Rattle.site_step.proofs.Prefixes.{held_whole}
 use Rattle.site_service.proofs.service.Service.start.Goals as goal
 
 pub invariant_of-service : goal.invariant_of-service
 invariant_of-service g c =
     sound_opened c.args.schema c.args.opened.site c.args.opened.keys.last 0 c.new-2.result.items (g.F.LogFile.bytes c.args.log)
     (g.F.LogFile.safe c.args.log) (g.F.LogFile.least c.args.log) (length c.bytes-settled.result.now) c.new.result c.args.opened.keys.lines
-    c.requires.own c.requires.whole (ap length (c.bytes-settled.ensures.bytes ∙ c.medium.ensures.bytes)) c.requires.text
+    c.requires.own c.requires.whole (ap length (c.bytes-settled.ensures.bytes ∙ held_whole c.args.opened.site c.requires.whole.held c.medium.ensures.bytes)) c.requires.text
     (c.new.ensures.none c.args.opened.site.bytes) c.requires.none
 
 pub returns-in-Ok : goal.returns-in-Ok

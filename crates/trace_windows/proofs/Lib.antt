@@ -1,0 +1,4 @@
+mod Lines
+mod Moving
+mod Telling
+mod Sites
