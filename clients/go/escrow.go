@@ -1,8 +1,8 @@
-// Package escrow is a client of a served site: it starts `escrow_site serve FOLDER`, and many goroutines ask it at once. Lines go
-// out, lines come in, in the same order: docs/FORMATS.md has all of them.
+// Package escrow is a client of a served site: it starts `escrow_site serve FOLDER`, or comes in by a door that serves a folder to many
+// processes, and many goroutines ask it at once. Lines go out, lines come in, in the same order: docs/FORMATS.md has all of them.
 //
-// A Site is one process, from its ready line to its end. After a stop, Start makes a new one; first ask it by Kept of the changes
-// that the stop left in doubt. It has no time limits.
+// A Site is one process, or one connection, from its ready line to its end. After a stop, Start or Connect makes a new one; first ask
+// it by Kept of the changes that the stop left in doubt.
 package escrow
 
 import (
@@ -17,6 +17,8 @@ import (
 	"strconv"
 	"strings"
 	"sync"
+	"sync/atomic"
+	"time"
 )
 
 // Refused is the error of what a site didn't do: nothing was changed. Reply is what it told, as "refused 7 short 3".
@@ -24,11 +26,17 @@ type Refused struct{ Reply string }
 
 func (fault Refused) Error() string { return "escrow: " + fault.Reply }
 
-// InDoubt is the error of a change that a stop left without its answer: Kept tells what became of it at the next start. Never ask
-// for it again before.
+// InDoubt is the error of a change that was asked, and whose answer a stop left out, or didn't come in time: Kept tells what became of
+// it, over a new Site where this one has ended. Never ask for it again before; by a key, do, with the same one.
 type InDoubt struct{ ID string }
 
-func (fault InDoubt) Error() string { return "escrow: a stop left out the answer of " + fault.ID }
+func (fault InDoubt) Error() string { return "escrow: the answer is left out of " + fault.ID }
+
+// Lost is the error of a transaction whose commit a stop, or the end of its time, came before: it isn't committed, and never will be.
+// Ask anew.
+type Lost struct{ ID string }
+
+func (fault Lost) Error() string { return "escrow: it isn't committed, and never will be: " + fault.ID }
 
 // Ended is the error of a process that has ended, before it served or with another status than 0: 6, another one has the folder; 5,
 // the disk failed; 2 or 3, standard error tells what to do; -1, a signal ended it.
@@ -38,38 +46,56 @@ func (fault Ended) Error() string {
 	return fmt.Sprintf("escrow: escrow_site has ended with status %d", fault.Status)
 }
 
-// ErrStopped is the error of a question that a stop left without its answer: it changed nothing.
-var ErrStopped = errors.New("escrow: the process of the site has ended")
+// ErrStopped is the error of what a stop came before: nothing was begun, and a question wasn't answered. Ask anew, over a new Site.
+var ErrStopped = errors.New("escrow: the process of the site, or the connection to its door, has ended")
+
+// ErrBusy is the error of what wasn't asked, or of a question that wasn't answered, as its time was up: nothing was begun. Ask anew.
+var ErrBusy = errors.New("escrow: its time was up before it was asked, or before an answer that changes nothing")
+
+// ErrOpen is the error of a question whether a transaction is kept that is open still: ask again later.
+var ErrOpen = errors.New("escrow: the transaction is open still")
+
+// ErrDoor is the error where there is no way in by a door, or it has ended the connection. errors.Is tells it.
+var ErrDoor = errors.New("escrow: no way in by this door")
+
+// ErrKey is the error of what is no key: one is 1 to 64 of A-Z a-z 0-9 . _ -.
+var ErrKey = errors.New("escrow: no key of 1 to 64 of A-Z a-z 0-9 . _ -")
 
 // ErrID is the error of what is no id of this site, or none that the log can tell of: of another world or another site, or of an epoch
 // or number that isn't yet. Of a world that was settled look in the old folder's log.
 var ErrID = errors.New("escrow: no id of a transaction of this site")
 
-type asked struct {
-	line  string
-	reply chan<- string
-}
+// ErrForgotten is the error where the log was shortened, and a commit of this id, or with this key, may be among what it has let go of:
+// neither yes nor no. Nothing was committed by this call. Look into the program's own books, or into the archive of the log, and never
+// ask for the same anew. errors.Is tells it.
+var ErrForgotten = errors.New("escrow: the log has let go of what would tell: never ask for the same anew")
 
-// Site is one process that serves a site, until End. Any goroutine may make any call.
+// ErrNewer is the error where the program is newer than this client: use a client of its release. errors.Is tells it.
+var ErrNewer = errors.New("escrow: the program is newer than this client")
+
+// Site is one process that serves a site, or one connection to a door that does, until End. Any goroutine may make any call.
 type Site struct {
-	command    *exec.Cmd
-	world      string // the first digits of the world's name
-	number     string
-	epoch      uint64
-	writing    sync.Mutex // who holds it writes lines, and notes each, in the same order
-	pipe       io.WriteCloser
-	waiting    chan asked
-	begun      uint64 // the epoch's transactions
-	isClosed   bool
-	isRead     chan struct{} // closed at the end of the output
-	unreadable error
+	// Timeout is the time of each call, and of End, which is by force then; 0: none. Set it before the first call. Over a process the
+	// writing itself has no time, where more is under way than its pipe holds (some 800 changes).
+	Timeout time.Duration
+
+	command *exec.Cmd // nil over a door
+	world   string    // the first digits of the world's name
+	number  string
+	// mayForget tells that its log was shortened, or may be.
+	mayForget bool
+	header    string // of a door: it has the names of the fields
+	lines     *lines
+	keys      sync.Mutex
+	byKey     map[string]int // of changes that are under way
 }
 
-const atOnce = 1 << 16 // so many lines at most are unanswered; one more waits
-
-var ready = regexp.MustCompile(`\Aready 1 (\d+) \d+\n(\d+) restart -> restarted (\d+) nothing\n\z`)
+var ready = regexp.MustCompile(`\Aready ([12]) (\d+) \d+\n(\d+) restart -> restarted (\d+) nothing\n\z`)
+var newer = regexp.MustCompile(`(?m)^ready (?:[3-9]|[1-9]\d+)\b`)
 var world = regexp.MustCompile(`(?m)^world ([0-9a-f]{8})`)
-var field = regexp.MustCompile(`\A[a-z0-9_]+\z`)
+var field = regexp.MustCompile(`\A[a-z0-9_]{1,32}\z`)
+var aKey = regexp.MustCompile(`\A[A-Za-z0-9._-]{1,64}\z`)
+var numbers = regexp.MustCompile(`\A(?:0|[1-9]\d*)\.(?:0|[1-9]\d*)\z`)
 var id = regexp.MustCompile(`\A(?:([0-9a-f]{8})-(?:(0|[1-9]\d*)-)?)?(0|[1-9]\d*)\.(0|[1-9]\d*)\z`)
 
 // Start starts the program over this folder, and returns once it serves. An error is Ended, or tells why nothing was started.
@@ -95,139 +121,163 @@ func Start(program, folder string) (*Site, error) {
 	if err := command.Start(); err != nil {
 		return nil, err
 	}
-	return greet(&Site{command: command, world: string(named[1]), pipe: pipe}, bufio.NewReader(out))
+	return greet(&Site{command: command, world: string(named[1])}, pipe, bufio.NewReader(out))
 }
 
 // greet reads the ready line and that of the restart.
-func greet(site *Site, out *bufio.Reader) (*Site, error) {
+func greet(site *Site, pipe io.WriteCloser, out *bufio.Reader) (*Site, error) {
 	first, _ := out.ReadString('\n')
 	second, _ := out.ReadString('\n')
 	words := ready.FindStringSubmatch(first + second)
 	if words == nil {
-		site.pipe.Close()
+		pipe.Close()
 		io.Copy(io.Discard, out)
 		if err := ended(site.command.Wait()); err != nil {
 			return nil, err
 		}
-		return nil, fmt.Errorf("escrow: lines of another version: %q", first+second)
+		return nil, otherVersion(first + second)
 	}
-	site.epoch, _ = strconv.ParseUint(words[1], 10, 32)
-	site.number = words[2]
-	site.waiting, site.isRead = make(chan asked, atOnce), make(chan struct{})
-	go site.readAnswers(out)
+	epoch, _ := strconv.ParseUint(words[2], 10, 32)
+	site.number, site.mayForget, site.lines = words[3], words[1] == "2", newLines(epoch, pipe, nil, true)
+	go func() {
+		site.lines.read(out)
+		if site.lines.fault != nil {
+			site.command.Process.Kill() // nobody reads what it writes
+		}
+	}()
 	return site, nil
 }
 
-// readAnswers hands each reply to whom asked. A last line without a line feed is torn, and no answer.
-func (site *Site) readAnswers(out *bufio.Reader) {
-	defer close(site.isRead)
-	for {
-		line, err := out.ReadString('\n')
-		if err != nil {
-			return
-		}
-		if site.unreadable = site.hand(strings.TrimSuffix(line, "\n")); site.unreadable != nil {
-			site.command.Process.Kill() // nobody reads what it writes
-			return
-		}
+// otherVersion is the error of first lines that this client doesn't know.
+func otherVersion(told string) error {
+	if newer.MatchString(told) {
+		return fmt.Errorf("%w: it began with %q", ErrNewer, told)
 	}
+	return fmt.Errorf("escrow: lines of another version: %q", told)
 }
 
-// hand hands a reply to whom asked; of a bad line that is the line that tells what is wrong.
-func (site *Site) hand(line string) error {
-	select {
-	case it := <-site.waiting:
-		front := it.line + " -> "
-		if !strings.HasPrefix(line, front) && !strings.HasPrefix(line, "bad line ") {
-			return fmt.Errorf("escrow: the answer of %q is %q", it.line, line)
-		}
-		it.reply <- strings.TrimPrefix(line, front)
-		return nil
-	default:
-		return fmt.Errorf("escrow: an answer that nobody asked for: %q", line)
+// odd is the error of an answer that is neither of those that were due.
+func odd(reply string) error {
+	if strings.HasPrefix(reply, "refused ") || strings.HasPrefix(reply, "bad line") {
+		return Refused{reply}
 	}
+	return fmt.Errorf("escrow: an answer that this client doesn't know: %q", reply)
 }
 
-// ask sends the lines that stand together, made of the number of the last transaction that is begun with them; their replies come in
-// order, fewer where a stop leaves them out. False: nothing was asked, since the site was ended.
-func (site *Site) ask(begins uint64, make func(begun uint64) []string) ([]string, bool) {
-	lines, replies, isAsked := site.send(begins, make)
-	var told []string
-	for isAsked && len(told) < len(lines) {
-		select {
-		case reply := <-replies:
-			told = append(told, reply)
-		case <-site.isRead:
-			select {
-			case reply := <-replies:
-				told = append(told, reply)
-			default:
-				return told, true
-			}
-		}
+// Up tells whether the process, or the connection, hasn't ended yet, as far as is known.
+func (site *Site) Up() bool { return site.lines.isUp() }
+
+// timer tells when a call's time is up, and has its end given back.
+func (site *Site) timer() (<-chan time.Time, func()) {
+	if site.Timeout <= 0 {
+		return nil, func() {}
 	}
-	return told, isAsked
+	atomic.StoreInt64(&site.lines.limit, int64(site.Timeout))
+	it := time.NewTimer(site.Timeout)
+	return it.C, func() { it.Stop() }
 }
 
-func (site *Site) send(begins uint64, lines func(begun uint64) []string) ([]string, <-chan string, bool) {
-	site.writing.Lock()
-	defer site.writing.Unlock()
-	if site.isClosed {
-		return nil, nil, false
+func (site *Site) idOf(line string) string { return site.world + "-" + site.number + "-" + line }
+
+// check tells why this is no field, by its spelling, or by the header that a door tells.
+func (site *Site) check(name string) error {
+	if !field.MatchString(name) {
+		return Refused{fmt.Sprintf("%q is no field", name)}
+	} else if site.lines.door != nil && !strings.Contains(site.header, `"name":"`+name+`"`) {
+		return Refused{name + ": no such field"}
 	}
-	site.begun += begins
-	made := lines(site.begun)
-	replies := make(chan string, len(made))
-	for _, line := range made {
-		select {
-		case site.waiting <- asked{line, replies}:
-		case <-site.isRead: // nobody answers any more
-			return made, replies, true
+	return nil
+}
+
+// unasked is the error of what wasn't taken.
+func (told heard) unasked() error {
+	if told.isLate {
+		return ErrBusy
+	}
+	return ErrStopped
+}
+
+// refusal is the error by which a begin and an escrow were refused.
+func (told heard) refusal() error {
+	for at, reply := range told.replies {
+		if at < 2 && reply != "granted" && !strings.HasPrefix(reply, "begun ") {
+			return Refused{reply}
 		}
 	}
-	io.WriteString(site.pipe, strings.Join(made, "\n")+"\n") // where it fails the output ends too
-	return made, replies, true
+	return nil
 }
 
 // Change makes a transaction of one change, below 0 to lower the field, in one trip, and returns its id. An error is Refused, InDoubt,
-// with the id, or ErrStopped, where nothing was asked. A program that dies meanwhile doesn't know the id.
+// with the id, or Lost, ErrBusy or ErrStopped, where nothing was changed. A program that dies meanwhile doesn't know the id.
 func (site *Site) Change(name string, change int64) (string, error) {
-	return site.ChangeBefore(name, change, func(string) error { return nil })
+	if !site.lines.isSure() { // a program is in between: so that the id is always known
+		return site.begunAndCommitted(name, change, func(string) error { return nil })
+	}
+	if err := site.check(name); err != nil {
+		return "", err
+	}
+	timer, stop := site.timer()
+	defer stop()
+	n := site.number
+	lines := []string{n + " begin", fmt.Sprintf("%s escrow # %s %d", n, name, change), n + " commit #"}
+	return site.changed(site.lines.ask(fmt.Sprintf("%s change %s %d", n, name, change), lines, timer))
 }
 
-// ChangeBefore is Change, with write called ahead of it: it writes the id into the program's own books. The id is known beforehand,
-// since nobody else begins transactions here. Of the last one in the books ask Kept, at the next start. What write fails with is
-// returned: nothing was changed, and the id never comes again. It asks this site nothing; others wait as long as it takes.
-func (site *Site) ChangeBefore(name string, change int64, write func(id string) error) (string, error) {
-	if !field.MatchString(name) {
-		return "", Refused{fmt.Sprintf("%q is no field", name)}
+func (site *Site) begunAndCommitted(name string, change int64, write func(id string) error) (string, error) {
+	begun, err := site.Begin(name, change)
+	if err != nil {
+		return "", err
 	}
-	var made string
+	defer begun.Abort()
+	if err := write(begun.ID); err != nil {
+		return "", err
+	}
+	return begun.ID, begun.Commit()
+}
+
+// changed tells how a change in one trip went.
+func (site *Site) changed(told heard) (string, error) {
+	switch refusal := told.refusal(); {
+	case !told.isTaken && !site.lines.isSure(): // behind a line that no door tells
+		return "", InDoubt{}
+	case !told.isTaken:
+		return "", told.unasked()
+	case refusal != nil: // the commit then changes nothing
+		return "", refusal
+	case len(told.replies) > 2 && told.replies[2] == "committed":
+		return site.idOf(told.id), nil
+	}
+	return "", InDoubt{site.idOf(told.id)}
+}
+
+// ChangeBefore is Change, with write called ahead of it: it writes the id into the program's own books. Of the last one in the books
+// ask Kept, at the next start. What write fails with is returned: nothing was changed, and the id never comes again. It asks this
+// site nothing; over a process others wait as long as it takes, and over a door it costs a trip.
+func (site *Site) ChangeBefore(name string, change int64, write func(id string) error) (string, error) {
+	if site.lines.door != nil {
+		return site.begunAndCommitted(name, change, write)
+	}
+	if err := site.check(name); err != nil {
+		return "", err
+	}
 	var fault error
 	var panicked any
-	told, isAsked := site.ask(1, func(begun uint64) []string {
-		line := fmt.Sprintf("%d.%d", site.epoch, begun)
-		made = site.world + "-" + site.number + "-" + line
-		fault, panicked = written(write, made)
+	timer, stop := site.timer()
+	defer stop()
+	told, _ := site.lines.askProgram(1, func(_ uint64, line string) ([]string, error) {
+		fault, panicked = written(write, site.idOf(line))
 		if fault != nil || panicked != nil {
-			return []string{site.number + " begin", site.number + " abort " + line} // so that no other change has this id
+			return []string{site.number + " begin", site.number + " abort " + line}, nil // so that no other change has this id
 		}
 		escrow := fmt.Sprintf("%s escrow %s %s %d", site.number, line, name, change)
-		return []string{site.number + " begin", escrow, site.number + " commit " + line}
-	})
-	switch {
-	case panicked != nil:
+		return []string{site.number + " begin", escrow, site.number + " commit " + line}, nil
+	}, timer)
+	if panicked != nil {
 		panic(panicked)
-	case fault != nil:
+	} else if fault != nil {
 		return "", fault
-	case !isAsked:
-		return "", ErrStopped
-	case len(told) > 1 && told[1] != "granted": // the commit then changes nothing
-		return "", Refused{told[1]}
-	case len(told) > 2 && told[2] == "committed":
-		return made, nil
 	}
-	return "", InDoubt{made}
+	return site.changed(told)
 }
 
 func written(write func(id string) error, id string) (fault error, panicked any) {
@@ -235,8 +285,48 @@ func written(write func(id string) error, id string) (fault error, panicked any)
 	return write(id), nil
 }
 
+// ChangeByKey is Change, in two trips, once for each key however often it is asked for: 1 to 64 of A-Z a-z 0-9 . _ -, as the number of an
+// order. The id is that of the commit that has the key, which may be an earlier one. So after any error but Refused ask for the
+// same again, with the same key. Over a log that may be shortened it takes a third trip. An error is ErrKey too, or ErrForgotten, where
+// an earlier one may have the key: then nothing is committed.
+func (site *Site) ChangeByKey(name string, change int64, key string) (string, error) {
+	if !aKey.MatchString(key) {
+		return "", fmt.Errorf("%w: %q", ErrKey, key)
+	}
+	site.count(key, 1)
+	defer site.count(key, -1)
+	begun, err := site.Begin(name, change)
+	if refused := (Refused{}); errors.As(err, &refused) {
+		hasOthers := site.count(key, 0) > 1 // asked ahead of what is kept: it may commit in between
+		if kept, fault := site.KeptKey(key); kept != "" || fault != nil {
+			return kept, fault
+		} else if hasOthers {
+			return "", ErrBusy
+		}
+	}
+	if err != nil {
+		return "", err
+	}
+	return begun.CommitByKey(key)
+}
+
+// count tells how many changes by this key are under way, so many more.
+func (site *Site) count(key string, more int) int {
+	site.keys.Lock()
+	defer site.keys.Unlock()
+	if site.byKey == nil {
+		site.byKey = map[string]int{}
+	}
+	many := site.byKey[key] + more
+	if site.byKey[key] = many; many == 0 {
+		delete(site.byKey, key)
+	}
+	return many
+}
+
 // Kept tells whether the commit of this id is in the log: where it isn't it never will be. An id tells its world and its site; clients
-// of earlier days told no site, and before that no world. An error is ErrID, or ErrStopped, where nothing was answered.
+// of earlier days told no site, and before that no world. An error is ErrID, ErrOpen, ErrForgotten, which isn't no, or ErrBusy or
+// ErrStopped, where nothing was answered.
 func (site *Site) Kept(of string) (bool, error) {
 	words := id.FindStringSubmatch(of)
 	if words == nil || (words[1] != "" && words[1] != site.world) || (words[2] != "" && words[2] != site.number) {
@@ -247,19 +337,79 @@ func (site *Site) Kept(of string) (bool, error) {
 	if tooLong != nil || tooMany != nil {
 		return false, fmt.Errorf("%w: %q", ErrID, of)
 	}
-	site.writing.Lock()
-	isBegun := epoch < site.epoch || epoch == site.epoch && number <= site.begun
-	site.writing.Unlock()
-	if epoch > site.epoch {
-		return false, fmt.Errorf("%w: the epoch of %s is later than any of the log: an older log was put back", ErrID, of)
-	} else if !isBegun {
-		return false, fmt.Errorf("%w: no transaction of %s was begun yet", ErrID, of)
+	line := fmt.Sprintf("%d.%d", epoch, number)
+	if site.lines.isOpen(line) {
+		return false, ErrOpen
 	}
-	reply, err := site.one(fmt.Sprintf("kept %d.%d", epoch, number))
-	if err == nil && reply != "yes" && reply != "no" {
-		return false, Refused{reply}
+	timer, stop := site.timer()
+	defer stop()
+	asked := []string{"kept " + line}
+	if site.lines.door != nil {
+		return site.kept(of, site.lines.ask(asked[0], asked, timer))
 	}
-	return reply == "yes", err
+	told, err := site.lines.askProgram(0, func(begun uint64, _ string) ([]string, error) {
+		if epoch > site.lines.epoch {
+			return nil, errLater(of)
+		} else if epoch == site.lines.epoch && number > begun {
+			return nil, errUnbegun(of)
+		}
+		return asked, nil
+	}, timer)
+	if err != nil {
+		return false, err
+	}
+	return site.kept(of, told)
+}
+
+func errLater(of string) error {
+	return fmt.Errorf("%w: the epoch of %s is later than any of the log: an older log was put back", ErrID, of)
+}
+
+func errUnbegun(of string) error {
+	return fmt.Errorf("%w: no transaction of %s was begun yet", ErrID, of)
+}
+
+func (site *Site) kept(of string, told heard) (bool, error) {
+	if len(told.replies) == 0 {
+		return false, told.unasked()
+	}
+	switch reply := told.replies[0]; reply {
+	case "yes", "no":
+		return reply == "yes", nil
+	case "open":
+		return false, ErrOpen
+	case "forgotten":
+		return false, fmt.Errorf("%w: %s", ErrForgotten, of)
+	case "later":
+		return false, errLater(of)
+	case "unbegun":
+		return false, errUnbegun(of)
+	default:
+		return false, odd(reply)
+	}
+}
+
+// KeptKey has the id of the commit that has this key; "" where none has it by now: a change under way may commit yet. An error is ErrKey,
+// ErrForgotten, where the log may have let go of one, or ErrBusy or ErrStopped, where nothing was answered.
+func (site *Site) KeptKey(key string) (string, error) {
+	if !aKey.MatchString(key) {
+		return "", fmt.Errorf("%w: %q", ErrKey, key)
+	}
+	reply, err := site.one("kept key " + key)
+	if err != nil || reply == "no" {
+		return "", err
+	}
+	return site.idTold(reply, key)
+}
+
+// idTold is the id that a reply tells, of the commit that has a key.
+func (site *Site) idTold(reply, key string) (string, error) {
+	if reply == "forgotten" {
+		return "", fmt.Errorf("%w: %s", ErrForgotten, key)
+	} else if !numbers.MatchString(reply) {
+		return "", odd(reply) // as of a program that doesn't know keys
+	}
+	return site.idOf(reply), nil
 }
 
 // Read tells between which values the field lies.
@@ -289,27 +439,42 @@ func (site *Site) look(what, name, form string, numbers ...any) error {
 }
 
 func (site *Site) one(line string) (string, error) {
-	told, _ := site.ask(0, func(uint64) []string { return []string{line} })
-	if len(told) == 0 {
-		return "", ErrStopped
+	timer, stop := site.timer()
+	defer stop()
+	told := site.lines.ask(line, []string{line}, timer)
+	if len(told.replies) == 0 {
+		return "", told.unasked()
 	}
-	return told[0], nil
+	return told.replies[0], nil
 }
 
-// End closes the input, so that the process ends once all is answered, and waits for it. An error is Ended, where its status isn't 0.
+// End closes the input, so that all is answered, and waits for the end. An error is Ended, where the status of the process isn't 0, or
+// ErrDoor, where the connection has ended before.
 func (site *Site) End() error {
-	site.writing.Lock()
-	isFirst := !site.isClosed
-	site.isClosed = true
-	site.writing.Unlock()
-	if !isFirst {
+	isUp := site.Up()
+	if !site.lines.close() {
 		return ErrStopped
 	}
-	site.pipe.Close()
-	<-site.isRead
+	timer, stop := site.timer()
+	defer stop()
+	select {
+	case <-site.lines.isRead:
+	case <-timer:
+		if site.lines.cut(); site.command != nil {
+			site.command.Process.Kill()
+		}
+		<-site.lines.isRead
+	}
+	if site.command == nil {
+		site.lines.door.Close()
+		if site.lines.fault == nil && !isUp {
+			return doorFault{"it is gone"}
+		}
+		return site.lines.fault
+	}
 	err := ended(site.command.Wait())
-	if site.unreadable != nil {
-		return site.unreadable
+	if site.lines.fault != nil {
+		return site.lines.fault
 	}
 	return err
 }

@@ -18,14 +18,24 @@ import (
 const header = `{"sites":2,"fields":[{"name":"stock","floor":0,"ceiling":90000,"value":40000}]}`
 
 // made makes the folder of site 1, which has half the rights of 40000.
-func made(t *testing.T) (program, folder string) {
+func made(t *testing.T) (program, folder string) { return madeOf(t, header) }
+
+func madeOf(t *testing.T, schema string) (program, folder string) {
+	return madeIn(t, t.TempDir(), schema)
+}
+
+func madeIn(t *testing.T, place, schema string) (program, folder string) {
+	return madeNumber(t, place, schema, "1")
+}
+
+func madeNumber(t *testing.T, place, schema, number string) (program, folder string) {
 	program = os.Getenv("ESCROW_SITE")
 	if program == "" {
 		t.Fatal("name the program by $ESCROW_SITE")
 	}
-	folder = filepath.Join(t.TempDir(), "shop")
-	command := exec.Command(program, "create", folder, "--schema", "/dev/stdin", "--site", "1", "--name", "go")
-	command.Stdin = strings.NewReader(header + "\n")
+	folder = filepath.Join(place, "shop")
+	command := exec.Command(program, "create", folder, "--schema", "/dev/stdin", "--site", number, "--name", "go")
+	command.Stdin = strings.NewReader(schema + "\n")
 	if told, err := command.CombinedOutput(); err != nil {
 		t.Fatal(err, string(told))
 	}
@@ -74,6 +84,9 @@ func (told *tally) sell(t *testing.T, site *Site, each int) {
 			defer all.Done()
 			for count := 0; count < each; count++ {
 				id, err := site.Change("stock", -1)
+				if err == ErrStopped {
+					return
+				}
 				var doubt InDoubt
 				told.Lock()
 				switch {

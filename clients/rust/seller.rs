@@ -1,13 +1,15 @@
-//! Sells one by one from many threads over one served site, through its stops; first it asks of the IDs that a run before left in
-//! doubt. The client is the crate `escrow_served`, beside it.
+//! Sells one by one from many threads over one served site, or over its door (`seller door PATH ..`), through its stops; first it
+//! asks of the IDs that a run before left in doubt. One that the log has let go of is sold no second time. The client is the crate
+//! `escrow_served`, beside it.
 use escrow_served::{Change, Fault, Site};
 use std::sync::{atomic::AtomicI64, atomic::Ordering, Mutex};
 use std::thread;
 
-/// What is sold so far, the sales in doubt, and what refused the last one.
+/// What is sold so far, the sales in doubt, how many of these nobody can tell of any more, and what refused the last one.
 struct Tally {
     sold: i64,
     doubt: Vec<String>,
+    forgotten: i64,
     refusal: Option<String>,
 }
 
@@ -19,30 +21,46 @@ fn sell_on(site: &Site, field: &str, left: &AtomicI64, tally: &Mutex<Tally>) {
             Change::Refused(why) if !why.starts_with("refused ") => panic!("{why}"),
             Change::Refused(why) => return tally.lock().unwrap().refusal = Some(why),
             Change::InDoubt(id) => return tally.lock().unwrap().doubt.push(id),
+            Change::Lost(_) | Change::Busy => return, // it isn't sold
         }
     }
 }
 
 /// One run of the process, whose status is told: each sale in doubt is asked of first, and stays so where it stops again.
 fn run(words: &[String], threads: usize, sales: i64, tally: &Mutex<Tally>) -> Result<Option<i32>, Fault> {
-    let site = Site::start(&words[1], &words[2])?;
+    let site = match words[1].as_str() {
+        "door" => Site::connect(&words[2])?,
+        program => Site::start(program, &words[2])?,
+    };
     let mut told = tally.lock().unwrap();
     for id in std::mem::take(&mut told.doubt) {
-        let kept = site.kept(&id)?.inspect(|is_kept| println!("{id}: {}", if *is_kept { "kept" } else { "not kept" }));
-        told.sold += (kept == Some(true)) as i64;
-        told.doubt.extend(kept.is_none().then_some(id));
+        match site.kept(&id) {
+            Ok(Some(is_kept)) => {
+                println!("{id}: {}", if is_kept { "kept" } else { "not kept" });
+                told.sold += is_kept as i64;
+            }
+            Ok(None) => told.doubt.push(id),
+            Err(Fault::Forgotten(_)) => {
+                println!("{id}: forgotten: look into the books"); // it may be sold: never sell it anew
+                told.forgotten += 1;
+            }
+            Err(fault) => return Err(fault),
+        }
     }
-    let left = AtomicI64::new(sales - told.sold - told.doubt.len() as i64);
+    let left = AtomicI64::new(sales - told.sold - told.forgotten - told.doubt.len() as i64);
     drop(told);
     thread::scope(|scope| (0..threads).for_each(|_| drop(scope.spawn(|| sell_on(&site, &words[3], &left, tally)))));
-    Ok(site.end()?.code())
+    match site.end() {
+        Err(Fault::Door(_)) => Ok(None), // it is gone: as a stop
+        told => Ok(told?.code()),
+    }
 }
 
 fn main() -> Result<(), Fault> {
     let words: Vec<String> = std::env::args().collect();
     assert!(words.len() >= 6, "use: seller ESCROW_SITE FOLDER FIELD THREADS SALES [ID..]");
     let (threads, sales) = (words[4].parse().expect("THREADS"), words[5].parse().expect("SALES"));
-    let (tally, mut stops) = (Mutex::new(Tally { sold: 0, doubt: words[6..].to_vec(), refusal: None }), 0);
+    let (tally, mut stops) = (Mutex::new(Tally { sold: 0, doubt: words[6..].to_vec(), forgotten: 0, refusal: None }), 0);
     loop {
         let ended = match run(&words, threads, sales, &tally) {
             Err(Fault::Ended(status)) => status.code(),

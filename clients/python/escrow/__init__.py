@@ -13,7 +13,9 @@ from .errors import (
     Cause,
     Down,
     EscrowError,
+    Faulty,
     Forged,
+    Forgotten,
     Lost,
     NoKeys,
     NothingGiven,
@@ -35,9 +37,9 @@ from .transaction import AsyncTransaction, Transaction
 from .values import Interval, Kind, Mark, Outcome, Share, Spared, Statement
 
 __all__ = [
-    "AsyncSite", "AsyncTransaction", "Backoff", "Busy", "Cause", "Counts", "DeviceFault", "Down", "EscrowError", "Field",
-    "Forged", "Interval", "Kind", "Lost", "Mark", "NoKeys", "NothingGiven", "OtherSite", "OtherWorld", "Outcome", "Over",
-    "ProgramError", "Refusal", "Refused", "Schema", "Share", "Short", "Shown", "Site", "Spared", "Statement",
+    "AsyncSite", "AsyncTransaction", "Backoff", "Busy", "Cause", "Counts", "DeviceFault", "Down", "EscrowError", "Faulty",
+    "Field", "Forged", "Forgotten", "Interval", "Kind", "Lost", "Mark", "NoKeys", "NothingGiven", "OtherSite", "OtherWorld",
+    "Outcome", "Over", "ProgramError", "Refusal", "Refused", "Schema", "Share", "Short", "Shown", "Site", "Spared", "Statement",
     "Transaction", "Unknown", "Watch", "__version__", "create", "find_program", "show",
 ]  # fmt: skip
 

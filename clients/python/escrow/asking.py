@@ -4,18 +4,20 @@ may change something."""
 
 from __future__ import annotations
 
+import logging
 import time
 from typing import Optional, TypeVar, cast
 
 from .calls import Call, Kept
 from .desk import NEVER, Ask
-from .errors import Busy, Down, Interrupted, Unknown
+from .errors import Busy, Down, Faulty, Forgotten, Interrupted, OddWord, Unknown
 from .keys import KeptKey
 from .pipeline import Pipeline
 from .values import Outcome
 from .waiters import ThreadWaiter
 
 T = TypeVar("T")
+log = logging.getLogger("escrow")
 
 
 def end_of(timeout: Optional[float], default: Optional[float]) -> float:
@@ -42,18 +44,28 @@ def ask(pipeline: Pipeline, call: Call[T], end: float = NEVER) -> T:
 
 
 def is_kept(pipeline: Pipeline, id: str, seconds: float) -> bool:
-    """Whether the log has the commit of this transaction: asked of a site that stands, before anybody else may ask it.
-    Raises `Down` where it isn't answered in so many seconds."""
+    """Whether the log has the commit of this transaction, or has come further and let go of it: asked of a site that stands,
+    before anybody else may ask it. Raises `Down` where it isn't answered in so many seconds.
+
+    Of a transaction that was open as the log was shortened it tells yes or no still. So one of which it can't tell had ended
+    before, and a log that has let go of its commit isn't older than that.
+    """
     try:
         return ask(pipeline, Kept(id, pipeline.line_id(id)), time.monotonic() + seconds) is Outcome.COMMITTED
     except Busy as fault:
         raise Down(f"whether the log has transaction {id} wasn't answered in time") from fault
+    except Faulty as fault:
+        raise Down(f"whether the log has transaction {id} isn't known: {fault}") from fault
+    except Forgotten:
+        log.warning("whether the log had transaction %s can't be told: it has come further, and has let go of that time", id)
+        return True
     except (Unknown, ValueError):  # its epoch is later than any of the log, or the one that has just begun
         return False
 
 
 def kept(pipeline: Pipeline, id: str, end: float = NEVER) -> Outcome:
-    """What became of a transaction whose answer a stop left out. Raises `Unknown` where it can't be asked."""
+    """What became of a transaction whose answer a stop left out. Raises `Unknown` where it can't be asked, and where the log
+    has let go of what would tell."""
     return ask_behind_stop(pipeline, Kept(id, pipeline.line_id(id)), id, end)
 
 
@@ -71,13 +83,16 @@ def kept_with(pipeline: Pipeline, key: str, id: Optional[str], end: float = NEVE
 def ask_behind_stop(
     pipeline: Pipeline, call: Call[T], id: Optional[str] = None, end: float = NEVER, key: Optional[str] = None
 ) -> T:
-    """Asks of what a stop left in doubt, again behind each further one. Raises `Unknown` where it can't be asked."""
+    """Asks of what a stop left in doubt, again behind each further one. Raises `Unknown` where it can't be asked, or the
+    answer doesn't tell."""
     while True:
         try:
             return ask(pipeline, call, end)
         except Interrupted:
             continue
-        except (Down, Busy) as fault:
+        except Forgotten as fault:
+            raise Forgotten(id, key) from fault
+        except (Down, Busy, OddWord) as fault:
             raise unknown(pipeline, fault, id, key) from fault
 
 
@@ -109,5 +124,7 @@ async def async_ask_behind_stop(
             return await ask_(call, end)
         except Interrupted:
             continue
-        except (Down, Busy) as fault:
+        except Forgotten as fault:
+            raise Forgotten(id, key) from fault
+        except (Down, Busy, OddWord) as fault:
             raise unknown(pipeline, fault, id, key) from fault

@@ -7,13 +7,15 @@ import enum
 from collections.abc import Callable, Sequence
 from typing import ClassVar, Generic, Optional, Protocol, TypeVar
 
-from .errors import Busy, EscrowError, Faulty, Over, Unknown, gone, refused
+from .errors import Busy, EscrowError, Faulty, Forgotten, OddWord, Over, Unknown, gone, refused
 from .values import Command, Mark, Outcome
 from .waiters import Awaited
 
 T = TypeVar("T")
 ARROW = " -> "
 LATE = "it was asked, and its answer didn't come in time"
+FORGOTTEN = "forgotten"
+"""What is answered of a commit that may be among what a shortened log has let go of."""
 
 
 class Run(Protocol):
@@ -119,6 +121,8 @@ class Call(Awaited, Generic[T]):
             at = end + 1
         try:
             self.answer = self.told(replies)
+        except OddWord as fault:
+            self.answer = fault
         except Faulty:
             raise
         except Exception as fault:
@@ -493,10 +497,12 @@ class Kept(Call[Outcome]):
         text = replies[0].text
         if text == "yes":
             return Outcome.COMMITTED
+        if text == FORGOTTEN:
+            raise Forgotten(self._asked)
         if text in _BY_A_DOOR:
             self._stands(_BY_A_DOOR[text])
         elif text != "no":
-            raise Faulty(f"{replies[0].line!r} was answered {text!r}")
+            raise OddWord(replies[0].line, text)
         return Outcome.OPEN if self._is_open else Outcome.NOT_COMMITTED
 
 

@@ -15,7 +15,7 @@ from .errors import Down, Faulty
 from .pipeline import Watch
 from .schema import Identity, Schema
 from .shared import SharedPipeline
-from .supervisor import A_WHILE, LOOK, Backoff, mark_of
+from .supervisor import A_WHILE, LOOK, Backoff, read_ready
 from .values import Mark
 
 log = logging.getLogger("escrow")
@@ -40,6 +40,8 @@ class Hello(NamedTuple):
 
     site: Identity
     mark: Mark
+    may_forget: bool
+    """Whether the log of its site was shortened, or may be."""
 
 
 class Way(NamedTuple):
@@ -102,8 +104,10 @@ def _hear(peer: socket.socket, path: str, goes_on: Callable[[], bool]) -> tuple[
         if lines[0] != FIRST_LINE:
             raise ValueError
         number, world = int(lines[1].removeprefix("number ")), lines[2].removeprefix("world ")
-        return Hello(Identity(number, world, Schema.parse(lines[3])), mark_of(lines[4].encode())), is_direct
-    except (ValueError, KeyError, TypeError, IndexError, Down) as fault:
+        return Hello(Identity(number, world, Schema.parse(lines[3])), *read_ready(lines[4].encode())), is_direct
+    except Down as fault:
+        raise NoWay(f"{path}: {fault}", True) from fault
+    except (ValueError, KeyError, TypeError, IndexError) as fault:
         why = f"isn't a door of version 1, which alone this client knows: it began with {lines[0][:80]!r}"
         raise NoWay(f"{path}: {why}", True) from fault
 
@@ -218,7 +222,7 @@ class Connector:
         why, is_read = "the connection has ended", False
         if self._watch is not None:
             self._watch.started(*self.mark)
-        self._pipeline.join(self.mark.epoch, way.peer, way.is_direct)
+        self._pipeline.join(self.mark.epoch, way.peer, way.is_direct, way.hello.may_forget)
         log.info("%s: the door stands: epoch %d", self._path, self.mark.epoch)
         if is_later:
             self._started()

@@ -180,12 +180,32 @@ class Unknown(EscrowError):
     key**: then it happens once.
 
     `id` is that of the transaction, where there is one: `Site.outcome` tells of it once the site answers again. `key` is
-    the one that it was to be committed with: `Site.kept_key` tells of it.
+    the one that it was to be committed with: `Site.kept_key` tells of it. Where it is `Forgotten` neither can.
     """
 
     def __init__(self, why: str, id: Optional[str] = None, key: Optional[str] = None) -> None:
         self.id, self.key = id, key
         super().__init__(_of_transaction(why, id, key))
+
+
+class Forgotten(Unknown):
+    """An `Unknown` that the site itself can't decide any more: its log was shortened, and what would tell may be among what it
+    has let go of. **Never ask for the same anew, with a key or without**: it may have happened. Look into your own books, or
+    into the archive of the log.
+
+    `id` is that of the transaction that was asked about; of a key `key` alone, which an earlier commit may have, and where a
+    stop left this one's answer out the `id` of this one too.
+    """
+
+    def __init__(self, id: Optional[str] = None, key: Optional[str] = None) -> None:
+        super().__init__(_FORGOTTEN.format(_OF_AN_ID if key is None else _OF_A_KEY), id, key)
+
+
+_FORGOTTEN = (
+    "the log was shortened, and {} may be among what it has let go of: look into your own books, or into the archive of the log, "
+    "and never ask for the same anew"
+)
+_OF_AN_ID, _OF_A_KEY = "its commit", "a commit with this key"
 
 
 class Down(EscrowError):
@@ -251,6 +271,14 @@ class EpochFull(EscrowError):
 
 class Faulty(EscrowError):
     """What the program answered doesn't fit what it was asked. The process is ended, and what it did is looked up."""
+
+
+class OddWord(Faulty):
+    """A question was answered with a word that this client doesn't know, as that of a newer program: so it isn't known what is
+    there. The lines fit, so the process goes on; the same would be answered again, so it isn't asked again."""
+
+    def __init__(self, asked: str, told: str) -> None:
+        super().__init__(f"{asked!r} was answered {told!r}, which this client doesn't know: use the client of this program")
 
 
 _CLASSES = {Refusal.SHORT: Short, Refusal.FORGED: Forged, Refusal.NOTHING_GIVEN: NothingGiven}

@@ -10,8 +10,8 @@ from collections.abc import Iterator, Sequence
 from contextlib import contextmanager
 from typing import Optional
 
-from .calls import ARROW, LATE, Account, Call, Naming, Reply, Run
-from .errors import EscrowError, Faulty, NoKeys, Over, Unknown, gone
+from .calls import ARROW, FORGOTTEN, LATE, Account, Call, Naming, Reply, Run
+from .errors import EscrowError, Faulty, Forgotten, NoKeys, OddWord, Over, Unknown, gone
 from .numbers import read_id
 from .values import Command
 
@@ -89,19 +89,21 @@ class KeyedCommit(Naming[Optional[str]]):
     def told(self, replies: Sequence[Reply]) -> Optional[str]:
         first = replies[0]
         if first.line.startswith("kept ") or first.text.startswith(BAD):
-            return _id_told(first)
+            return _id_told(first, self._key)
         first.words("committed")
         return None
 
 
 class KeptKey(Call[Optional[str]]):
-    """How lines name the transaction whose commit has a key; None where none has it."""
+    """How lines name the transaction whose commit has a key; None where none has it. `Forgotten` where one may have had it that
+    a shortened log has let go of."""
 
-    __slots__ = ()
+    __slots__ = ("_key",)
     command = Command.KEPT
     again = True
 
     def __init__(self, key: str) -> None:
+        self._key = key
         self.text, self.expected = f"kept key {key}\n", ""
 
     def plan(self, run: Run) -> None:
@@ -111,13 +113,21 @@ class KeptKey(Call[Optional[str]]):
         return Reply(line, answer) if answer.startswith(BAD) else super().reply(answer, line)
 
     def told(self, replies: Sequence[Reply]) -> Optional[str]:
-        return None if replies[0].text == "no" else _id_told(replies[0])
+        reply = replies[0]
+        if reply.text == "no":
+            return None
+        try:
+            return _id_told(reply, self._key)
+        except Faulty as fault:
+            raise OddWord(reply.line, reply.text) from fault
 
 
-def _id_told(reply: Reply) -> str:
-    """How lines name a transaction, as a reply tells it. Raises `NoKeys` where the line wasn't known."""
+def _id_told(reply: Reply, key: str) -> str:
+    """How lines name a transaction, as a reply tells it. Raises `NoKeys` where the line wasn't known, and `Forgotten`."""
     if reply.text.startswith(BAD):
         raise NoKeys()
+    if reply.text == FORGOTTEN:
+        raise Forgotten(None, key)
     try:
         id = read_id(reply.text)
     except ValueError as fault:

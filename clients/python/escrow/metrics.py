@@ -29,7 +29,7 @@ SECONDS = (0.0001, 0.00025, 0.0005, 0.001, 0.0025, 0.005, 0.01, 0.025, 0.05, 0.1
 WATCHED = (("accept", 2, "no site"), ("accept", 3, "no field"), ("accept", 10, "not yours"), ("accept", 11, "forged"),
            ("give", 9, "ledger full"), ("spare", 9, "ledger full"))
 STATUSES = range(7)
-OUTCOMES = ("busy", "down", "lost", "over", "unknown")
+OUTCOMES = ("busy", "down", "forgotten", "lost", "over", "unknown")
 """Refusals, statuses and outcomes that are told from the beginning, as 0: Prometheus tells no increase of a count that it first
 sees at 1, and on these there are alarms."""
 
@@ -150,7 +150,7 @@ class Metrics:
                 self._shares[field, "raise"] = raise_
 
     def missed(self, outcome: str) -> None:
-        """A call ended without an answer of the site: in one of a few words of the client's (`lost`, `busy`)."""
+        """A call ended without an answer of the site that decides: in one of a few words of the client's (`lost`, `busy`)."""
         with self._lock:
             self._missed[outcome] += 1
 

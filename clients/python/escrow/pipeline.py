@@ -21,6 +21,7 @@ from .errors import (
     EpochFull,
     EscrowError,
     Faulty,
+    Forgotten,
     Interrupted,
     Lost,
     Over,
@@ -67,7 +68,8 @@ class Watch(Protocol):
         """The process has ended."""
 
     def missed(self, outcome: str) -> None:
-        """A call ended without its answer: `lost`, `over`, `unknown`, `down` or `busy`."""
+        """A call ended without its answer: `lost`, `over`, `unknown`, `down` or `busy`; `forgotten`, where the log has let go of
+        what would tell."""
 
     def waits(self, calls: int) -> None:
         """So many calls aren't answered yet."""
@@ -137,6 +139,8 @@ class Pipeline:
         self.keys = KeysUnderWay()
         # The process, as it now stands.
         self.up = False
+        self.may_forget = False
+        """Whether its log was shortened, or may be: then a commit that it hasn't got may have been let go of."""
         self.dead: Optional[Down] = None
         """Why no call is taken any more."""
         self.epoch = 0
@@ -535,13 +539,14 @@ class Pipeline:
 
     # What the supervisor does.
 
-    def stand(self, epoch: int, to: int) -> None:
+    def stand(self, epoch: int, to: int, may_forget: bool) -> None:
         """The process stands, and takes lines at this end of its pipe, which doesn't block, and is closed here."""
         with self._writing, self.lock:
             self.run += 1
             self.counts.starts += 1
             self._ending = self.dead is not None
             self.epoch, self._prefix, self._numbers, self.open = epoch, f"{epoch}.", 0, 0
+            self.may_forget = may_forget
             self.open_ids.clear()
             self._out, self._rest, self._to = [], "", to
             self._full.clear()
@@ -632,6 +637,8 @@ def _tell_answer(call: Call[Any], watch: Watch) -> None:
     told = call.answer
     if isinstance(told, Refused):
         watch.refused(call.command.value, int(told.number), told.reason)
+    if isinstance(told, Forgotten):
+        watch.missed("forgotten")
     if isinstance(told, Short):
         watch.shared(told.field, **{_SIDES[told.kind]: told.share})
     elif isinstance(told, Share):

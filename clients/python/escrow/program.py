@@ -113,12 +113,14 @@ class ShownField(NamedTuple):
 
 
 class Shown(NamedTuple):
-    """What a log stands for: how far it has come, its fields in order, and the totals given and accepted above 0."""
+    """What a log stands for: how far it has come, its fields in order, and the totals given and accepted above 0. Of the length
+    of a log that was shortened `gone` bytes aren't held any more."""
 
     mark: Mark
     fields: dict[str, ShownField]
     given: tuple[Totals, ...]
     accepted: tuple[Totals, ...]
+    gone: int = 0
 
 
 def show(folder: Path, program: Optional[Path] = None, *, timeout: Optional[float] = None) -> Shown:
@@ -128,9 +130,10 @@ def show(folder: Path, program: Optional[Path] = None, *, timeout: Optional[floa
     refused; `Busy` where that takes longer than `timeout` seconds, where there is one.
     """
     lines = [line.split(" ") for line in run(program, ["show", _path(folder)], None, timeout).splitlines()]
-    numbers = {words[0]: int(words[1]) for words in lines if words[0] in ("epoch", "length")}
+    numbers = {words[0]: int(words[1]) for words in lines if words[0] in ("epoch", "length", "gone")}
     fields = {words[1]: _field(words) for words in lines if words[0] == "field"}
-    return Shown(Mark(numbers["epoch"], numbers["length"]), fields, _totals(lines, "given"), _totals(lines, "accepted"))
+    mark, gone = Mark(numbers["epoch"], numbers["length"]), numbers.get("gone", 0)
+    return Shown(mark, fields, _totals(lines, "given"), _totals(lines, "accepted"), gone)
 
 
 def _totals(lines: Sequence[Sequence[str]], name: str) -> tuple[Totals, ...]:

@@ -196,14 +196,14 @@ class SharedPipeline(Pipeline):
 
     # What the connector does.
 
-    def join(self, epoch: int, peer: socket.socket, is_direct: bool) -> None:
+    def join(self, epoch: int, peer: socket.socket, is_direct: bool, may_forget: bool) -> None:
         """There is a connection, which takes lines; `is_direct` tells whether nothing is between it and the door."""
         with self.lock:
             self.era += self.run > 0  # others may have given, and given up, meanwhile
             self._untaken.clear()
             self._names.clear()
             self.told_end, self._peer, self._is_direct = "", peer, is_direct
-        self.stand(epoch, peer.fileno())
+        self.stand(epoch, peer.fileno(), may_forget)
 
     def cut(self) -> None:
         """Ends the connection by force."""

@@ -84,7 +84,8 @@ class Site:
         `program` is the path of `escrow_site` (see `find_program`). `trace` keeps a trace: from the first start on and
         always, or never. `sync=False` doesn't sync the log: a stop of the machine may lose what was answered.
         `not_before` refuses a log that is older, and so does `last_id`: the newest id that the caller's own books have
-        as committed. The log is asked for it once, before any other call, and a site whose log hasn't got it is closed.
+        as committed. The log is asked for it once, before any other call, and a site whose log hasn't got it is closed; one
+        that was shortened beyond it isn't older, and goes on.
         A later start, behind a stop, isn't asked again: it is told the mark of the start before as `not_before`.
         `metrics` counts what happens. `wait` is how many seconds this waits at most, `patience` how many a call waits
         for a site that doesn't stand, and `backoff` how many pass before a new start. `timeout` is that of calls which
@@ -290,8 +291,10 @@ class Site:
         short by now: `Short` is told where no commit has the key by then. Where another call of this process with the key is
         under way, that is `Busy`: it may commit yet; those of other processes, behind a door, aren't seen. It takes two
         trips, since the commit of a change that was refused would note the key, and holds a place between them. What `before`
-        was told is the id of this call, which isn't committed where an earlier one was. Raises `NoKeys` where the program
-        doesn't know keys, with nothing committed; `ValueError` or `TypeError`, with nothing asked, where it is none.
+        was told is the id of this call, which isn't committed where an earlier one was. Over a log that lets go of its front
+        the key is asked about first, in a third trip: **where it may have been let go of that is `Forgotten`, with the key, and
+        nothing is sold**, nor `before` called. Raises `NoKeys` where the program doesn't know keys, with nothing committed;
+        `ValueError` or `TypeError`, with nothing asked, where it is none.
         """
         end = end_of(timeout, self.timeout)
         if key is not None:
@@ -327,8 +330,9 @@ class Site:
         """The id of the commit that has this key at this site; None where none has it by now, though a call that is under way
         may commit with it yet. It has it as long as the log is there: neither a new world nor an older copy of the log has.
 
-        Raises `ValueError` or `TypeError` where it is no key, with nothing asked; `NoKeys`; `Down`; `Busy` where its time was
-        up: ask again.
+        Raises `Forgotten` where the log was shortened, and a commit with the key may be among what it let go of; `ValueError` or
+        `TypeError` where it is no key, with nothing asked; `NoKeys`; `Down`; `Busy` where its time was up: ask again; `Faulty`
+        where the answer is none that this client knows.
         """
         return id_of(self.pipeline, ask(self.pipeline, KeptKey(key_of(key)), end_of(timeout, self.timeout)))
 
@@ -403,8 +407,10 @@ class Site:
         """What became of a transaction, by the log: also of one of a client that died.
 
         Raises `OtherWorld` where its id tells another world than this site's, and `OtherSite` where it tells another site;
-        `Unknown` where it is of a later start than any that this log has: then an older log was put back; `ValueError`
-        where it is no id, or none of this epoch yet; `Down`; `Busy` where its time was up: ask again. An id that tells
+        `Unknown` where it is of a later start than any that this log has: then an older log was put back; `Forgotten`, which is
+        one too, where the log was shortened, and its commit may be among what it let go of: **that isn't not committed**;
+        `ValueError` where it is no id, or none of this epoch yet; `Down`; `Busy` where its time was up: ask again; `Faulty`
+        where the answer is none that this client knows. An id that tells
         no world or no site, as clients of earlier days gave them, is taken for one of this site.
         """
         return ask(self.pipeline, self._kept(id), end_of(timeout, self.timeout))

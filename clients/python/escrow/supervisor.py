@@ -4,6 +4,7 @@ from __future__ import annotations
 
 import logging
 import os
+import re
 import select
 import signal
 import subprocess
@@ -21,8 +22,9 @@ from .room import has_room
 from .values import Mark
 
 log = logging.getLogger("escrow")
-VERSION = "1"
-"""The version of the ready line and of all that follows it."""
+VERSIONS = (1, 2)
+"""Of the ready line and of all that follows it. By the second the log was shortened, or may be while it is served: then what is
+asked of a commit may be answered `forgotten`."""
 DISK = 5
 """The status behind a fault of the disk."""
 HOPELESS = {
@@ -213,7 +215,7 @@ class Supervisor:
         ready, restart = back.readline(), back.readline()
         if not restart.endswith(b"\n"):
             return False
-        mark = mark_of(ready)
+        mark, may_forget = read_ready(ready)
         if mark.epoch <= self._pipeline.epoch:
             raise Faulty(f"epoch {mark.epoch} behind epoch {self._pipeline.epoch}")
         if self._pipeline.epoch and served_between(self._orders.folder, self.mark or mark, mark):
@@ -223,7 +225,7 @@ class Supervisor:
             self._watch.started(*mark)
         end = os.dup(to.fileno())
         os.set_blocking(end, False)
-        self._pipeline.stand(mark.epoch, end)
+        self._pipeline.stand(mark.epoch, end, may_forget)
         to.close()
         log.info("%s: the site stands: epoch %d, process %s", self._orders.folder, mark.epoch, self.pid)
         self._started()
@@ -265,12 +267,32 @@ class Supervisor:
                 self._pipeline.finish()
 
 
-def mark_of(ready: bytes) -> Mark:
-    """What the ready line of a process tells. Raises `Down` where it is none of this version."""
-    words = ready.decode("ascii", "replace").split()
-    if words[:2] != ["ready", VERSION] or len(words) != 4 or not (words[2] + words[3]).isdecimal():
-        raise Down(f"the program isn't one that this client knows: it began with {ready!r}")
-    return Mark(int(words[2]), int(words[3]))
+class Ready(NamedTuple):
+    """What the ready line of a process tells."""
+
+    mark: Mark
+    may_forget: bool
+    """Whether its log was shortened, or may be."""
+
+
+_READY = re.compile(rb"ready ([1-9][0-9]{0,8})(?: ([0-9]{1,20}) ([0-9]{1,20})\s*)?")
+
+
+def read_ready(line: bytes) -> Ready:
+    """What the ready line of a process tells. Raises `Down` where it is of no version that this client knows."""
+    found = _READY.match(line)
+    version = 0 if found is None else int(found[1])
+    if version > VERSIONS[-1]:
+        raise Down(f"the program is newer than this client, which knows its lines up to version {VERSIONS[-1]}, and not version "
+                   f"{version}: use a client of that program's release")
+    if found is None or found[2] is None or found.end() < len(line):
+        raise Down(f"the program isn't one that this client knows: it began with {line!r}")
+    return Ready(Mark(int(found[2]), int(found[3])), version > 1)
+
+
+def ready_line(ready: Ready) -> str:
+    """The line that tells it."""
+    return f"ready {VERSIONS[ready.may_forget]} {ready.mark.epoch} {ready.mark.length}\n"
 
 
 def _kill_all(process: subprocess.Popen[bytes]) -> None:

@@ -258,7 +258,8 @@ class Transaction(BaseTransaction):
         changed, what was set aside is given back, and the id is that of the earlier one. So after anything, `Unknown` too,
         all may be done again, with the same key. Where `lower` is `Short` then, ask `Site.kept_key` before you tell anybody.
         A key is kept where something was set aside. Where nothing was ever asked the id is that of the commit that has the
-        key, or empty. Raises `NoKeys` with nothing committed, and `ValueError` or `TypeError` where it is no key: then
+        key, or empty. Raises `Forgotten`, with the key and nothing committed, where the log was shortened and an earlier commit
+        may have the key; `NoKeys` with nothing committed, and `ValueError` or `TypeError` where it is no key: then
         nothing was asked, and the transaction is open.
         """
         end = end_of(timeout, self._timeout)
@@ -280,12 +281,32 @@ class Transaction(BaseTransaction):
         return "" if self.key is None else self._of_key(ask(self._pipeline, KeptKey(self.key), end))
 
     def _commit_once(self, key: str, end: float) -> str:
+        earlier = self._kept_before(key, end)
+        if earlier is not None:
+            return earlier
         try:
             return self._of_key(ask(self._pipeline, KeyedCommit(self, key), end))
         except Interrupted:
             id = kept_with(self._pipeline, key, self.id, end)
             self._found(id is not None)
             return id or self.id
+
+    def _kept_before(self, key: str, end: float) -> Optional[str]:
+        """The id of the commit that has this key already, where the log may let go of some: then this one is aborted. To the
+        commit itself a program that has let go of a key is as one that never had it, so it would be sold a second time. Raises
+        `Forgotten` where an earlier one may have the key, and what else the question does: aborted too, but for `Busy`."""
+        if not self._pipeline.may_forget:
+            return None
+        try:
+            line_id = ask(self._pipeline, KeptKey(key), end)
+        except Busy:
+            raise
+        except BaseException:
+            self._abort(end)
+            raise
+        if line_id is not None:
+            self._abort(end)
+        return id_of(self._pipeline, line_id)
 
     def abort(self, *, timeout: Optional[float] = None) -> None:
         """Gives the rights back. Does nothing where the transaction has ended, as by a stop of the site. Raises
@@ -328,6 +349,13 @@ class Transaction(BaseTransaction):
         except Refused as fault:
             has_others = self._pipeline.keys.has_others(key)  # asked ahead of what is kept: it may commit in between
             return self._kept_or(fault, ask(self._pipeline, KeptKey(key), end), has_others)
+        try:
+            earlier = self._kept_before(key, end)
+        except Busy:
+            self._abort(end)
+            raise
+        if earlier is not None:
+            return earlier
         if before is not None:
             self._tell(before, end)
         try:
@@ -423,12 +451,30 @@ class AsyncTransaction(BaseTransaction):
         return "" if self.key is None else self._of_key(await self._ask(KeptKey(self.key), end))
 
     async def _commit_once(self, key: str, end: float) -> str:
+        earlier = await self._kept_before(key, end)
+        if earlier is not None:
+            return earlier
         try:
             return self._of_key(await self._ask(KeyedCommit(self, key), end))
         except Interrupted:
             id = await async_kept_with(self._pipeline, self._ask, key, self.id, end)
             self._found(id is not None)
             return id or self.id
+
+    async def _kept_before(self, key: str, end: float) -> Optional[str]:
+        """As `Transaction._kept_before`."""
+        if not self._pipeline.may_forget:
+            return None
+        try:
+            line_id = await self._ask(KeptKey(key), end)
+        except Busy:
+            raise
+        except BaseException:
+            await self._abort(end)
+            raise
+        if line_id is not None:
+            await self._abort(end)
+        return id_of(self._pipeline, line_id)
 
     async def abort(self, *, timeout: Optional[float] = None) -> None:
         """As `Transaction.abort`."""
@@ -467,6 +513,13 @@ class AsyncTransaction(BaseTransaction):
         except Refused as fault:
             has_others = self._pipeline.keys.has_others(key)  # asked ahead of what is kept: it may commit in between
             return self._kept_or(fault, await self._ask(KeptKey(key), end), has_others)
+        try:
+            earlier = await self._kept_before(key, end)
+        except Busy:
+            await self._abort(end)
+            raise
+        if earlier is not None:
+            return earlier
         if before is not None:
             await self._tell(before, end)
         try:

@@ -194,6 +194,7 @@ def _folder(folder: Folder, tail: Tail | None) -> Json:
         "state": state_of(folder.path).value,
         "epoch": folder.shown.mark.epoch if folder.shown else None,
         "length": folder.shown.mark.length if folder.shown else None,
+        "gone": folder.shown.gone if folder.shown else None,
         "fault": folder.fault,
         "answers": tail.answers if tail else None,
         "refused": tail.refused if tail else None,

@@ -77,7 +77,9 @@ class Carrier:
     Any thread may call `change` and `fetch`; they wait for at most `policy.asks` times `policy.patience`, or the
     `patience` of a medium that needs more, as `Folder` does, and as long as the site is down; a `timeout` in seconds
     ends that. `AsyncCarrier` is for tasks. What it counts stands in `counts`, and in `metrics` too
-    where the site's are given: `escrow_carrier_forged_total` and so on, and `escrow_carrier_connected`."""
+    where the site's are given: `escrow_carrier_forged_total` and so on, and `escrow_carrier_connected`.
+
+    A `Site` behind a door (`Site.connect`) is a ValueError: it has no folder here."""
 
     def __init__(self, site: Site, medium: Medium, policy: Policy = Policy(), refresh: float = 10.0,
                  metrics: Optional[Metrics] = None, wait: float = 2.0) -> None:
@@ -86,6 +88,9 @@ class Carrier:
         self.last_fault: Optional[Exception] = None
         self.found_mark: Optional[Mark] = None
         """The mark that the medium had of this site, by an earlier start; None where none came yet."""
+        if site.pid is None and not os.path.isdir(site.folder):
+            raise ValueError(f"{site.folder}: a carrier reads the folder of its site, and this one is behind a door: nothing carries "
+                             f"for it yet; sell by one process, with a Site of the folder and its carrier, where rights are to move")
         world = identity(os.fspath(site.folder))
         self._topics = Topics(world.world, world.schema)
         self._others = [it for it in range(world.schema.sites) if it != site.number]

@@ -15,7 +15,11 @@ from escrow_carrier import Carrier, Folder, Medium, Mqtt
 
 def main(folder: str, program: str, port: str) -> int:
     """Sells without end. Status 3 where the log is an older copy, with one line that tells why."""
-    medium: Medium = Mqtt(port=int(port)) if port.isdecimal() else Folder(port, 0.05)
+    medium: Medium
+    if port.isdecimal():
+        medium = Mqtt(port=int(port))
+    else:
+        medium = Folder(port, 0.05)
     with Site(folder, program, trace=True) as site:
         try:
             with Carrier(site, medium, refresh=0.1):

@@ -1,7 +1,8 @@
 #!/usr/bin/env python3
 """Stands in for `escrow_site serve` where the real one never answers so: the first word behind `serve FOLDER` tells how.
 
-    version     its ready line is of version 2
+    version     its ready line is of version 3
+    other       its ready line is none
     misfit      it answers the first line with another one's
     silence     it never gets ready
     full        it has no number left for a begin
@@ -37,7 +38,7 @@ def main() -> None:
     if how == "silence":
         time.sleep(60)
     epoch = int(sys.argv[sys.argv.index("--not-before") + 1]) + 1 if "--not-before" in sys.argv else 1
-    print("ready", "2" if how == "version" else "1", epoch, "4", flush=True)
+    print("hello" if how == "other" else "ready", "3" if how == "version" else "1", epoch, "4", flush=True)
     print(f"0 restart -> restarted {epoch} nothing", flush=True)
     for count, line in enumerate(sys.stdin):
         if how == "misfit" or (how == "turns" and count >= 60):

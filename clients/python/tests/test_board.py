@@ -28,6 +28,8 @@ from escrow_board.refusals import tail_of
 from escrow_board.server import PAGE, BoardServer
 
 PROGRAM = escrow_site()
+FORGETFUL = os.path.join(os.path.dirname(os.path.abspath(__file__)), "forgetful_site.py")
+"""It stands in for the program of the next release, whose log lets go of its front."""
 BROWSER = next((it for it in map(shutil.which, ("chromium", "chromium-browser", "google-chrome")) if it), None)
 
 HEADER = ('{"sites":3,"fields":[{"name":"stock","floor":0,"ceiling":100,"value":40},'
@@ -129,6 +131,12 @@ class InBrowser(unittest.TestCase):
             found = text.find(part, at)
             self.assertGreaterEqual(found, 0, f"{part} isn't behind {text[:at]} in {text}")
             at = found + len(part)
+
+    def test_a_log_that_was_shortened(self) -> None:
+        """How much of it was let go of stands behind its length."""
+        folders = create(self.at, '{"sites":1,"fields":[{"name":"stock","floor":0,"ceiling":100,"value":40}]}', 1)
+        self.whole(self.open(Board(FORGETFUL, folders)).sections["folders"], "|5,000 bytes, 1,000 of them let go|")
+        self.whole(self.open(Board(PROGRAM, folders)).sections["folders"], "|0 bytes|")
 
     def test_three_sites(self) -> None:
         """Each field, bound, interval, share, right on its way and refusal of three sites stands on the page."""

@@ -67,8 +67,8 @@ class Copied(Sites):
         return str(refused.exception)
 
 
-class Played:
-    """What is played over each medium."""
+class Played(Copied):
+    """What is played over each medium, also by a shop in a process of its own."""
 
     def medium(self) -> Medium:
         """For one carrier."""
@@ -78,7 +78,27 @@ class Played:
         """The same for a process of its own."""
         raise NotImplementedError
 
-    def test_a_copy_is_refused_and_the_true_folder_goes_on(self: Copied) -> None:       # type: ignore[misc]
+    def shop_process(self) -> subprocess.Popen[str]:
+        program = os.path.join(PACKAGES, "tests", "carrying.py")
+        words = [sys.executable, program, self.shop, escrow_site(), self.address()]
+        shop = subprocess.Popen(words, stdout=subprocess.PIPE, stderr=subprocess.DEVNULL, text=True)
+        self.addCleanup(shop.kill)
+        assert shop.stdout
+        self.addCleanup(shop.stdout.close)
+        return shop
+
+    def await_sales(self, shop: subprocess.Popen[str], count: int) -> None:
+        assert shop.stdout
+        for _ in range(count):
+            self.assertRegex(shop.stdout.readline(), "^sold ")
+
+    def await_end(self) -> None:
+        """The program has seen the end of its client."""
+        with open(os.path.join(self.shop, "log"), "rb") as log:
+            fcntl.flock(log, fcntl.LOCK_EX)
+
+    def copy_is_refused(self) -> None:
+        """A copy is refused, and the true folder goes on."""
         site = self.sites[0]
         site.change("stock", -3)
         self.take_copy()                                # epoch 1, a start and a sale
@@ -99,7 +119,8 @@ class Played:
         site.change("stock", -3)
         self.assertEqual((site.share("stock").lower, carrier.last_fault), (1, None))
 
-    def test_a_shop_that_is_killed(self: Copied) -> None:                               # type: ignore[misc]
+    def shop_is_killed(self) -> None:
+        """A copy is refused also where the shop was killed, and the true folder isn't."""
         self.sites[0].close()
         shop = self.shop_process()
         self.take_copy()
@@ -123,33 +144,7 @@ class Played:
             self.await_end()
 
 
-class Process(Copied):
-    """A shop in a process of its own."""
-
-    def shop_process(self) -> subprocess.Popen[str]:
-        program = os.path.join(PACKAGES, "tests", "carrying.py")
-        words = [sys.executable, program, self.shop, escrow_site(), self.address()]
-        shop = subprocess.Popen(words, stdout=subprocess.PIPE, stderr=subprocess.DEVNULL, text=True)
-        self.addCleanup(shop.kill)
-        assert shop.stdout
-        self.addCleanup(shop.stdout.close)
-        return shop
-
-    def address(self) -> str:
-        raise NotImplementedError
-
-    def await_sales(self, shop: subprocess.Popen[str], count: int) -> None:
-        assert shop.stdout
-        for _ in range(count):
-            self.assertRegex(shop.stdout.readline(), "^sold ")
-
-    def await_end(self) -> None:
-        """The program has seen the end of its client."""
-        with open(os.path.join(self.shop, "log"), "rb") as log:
-            fcntl.flock(log, fcntl.LOCK_EX)
-
-
-class FolderCopiesTest(Played, Process):
+class FolderCopiesTest(Played):
     """Over a folder of files."""
 
     def medium(self) -> Medium:
@@ -158,9 +153,15 @@ class FolderCopiesTest(Played, Process):
     def address(self) -> str:
         return os.path.join(self.folder, "shared")
 
+    def test_a_copy_is_refused_and_the_true_folder_goes_on(self) -> None:
+        self.copy_is_refused()
+
+    def test_a_shop_that_is_killed(self) -> None:
+        self.shop_is_killed()
+
 
 @unittest.skipIf(MISSING, MISSING)
-class BrokerCopiesTest(Played, Process):
+class BrokerCopiesTest(Played):
     """Over mosquitto."""
 
     def setUp(self) -> None:
@@ -175,6 +176,12 @@ class BrokerCopiesTest(Played, Process):
 
     def address(self) -> str:
         return str(self.broker.port)
+
+    def test_a_copy_is_refused_and_the_true_folder_goes_on(self) -> None:
+        self.copy_is_refused()
+
+    def test_a_shop_that_is_killed(self) -> None:
+        self.shop_is_killed()
 
     def told(self) -> Optional[Mark]:
         """What the broker has."""

@@ -148,12 +148,12 @@ class ToldMarkTest(Sites):
                 is_awaited.clear()
                 site.change("stock", -3)
             return mark
-        site.newest_mark = sells_behind_it              # type: ignore[method-assign]
-        self.carrier(0, refresh=0.1)
-        time.sleep(0.5)
-        is_awaited.set()
-        site.change("stock", -3)
-        wait_until(lambda: self.kept() == f"1 {START + 2 * SALE}")
+        with patch.object(site, "newest_mark", sells_behind_it):
+            self.carrier(0, refresh=0.1)
+            time.sleep(0.5)
+            is_awaited.set()
+            site.change("stock", -3)
+            wait_until(lambda: self.kept() == f"1 {START + 2 * SALE}")
 
     def test_the_end_tells_it_at_once_and_last(self) -> None:
         told: list[str] = []
@@ -164,9 +164,9 @@ class ToldMarkTest(Sites):
         def note(topic: str, payload: str, is_kept: bool) -> None:
             told.append(topic)
             publish(topic, payload, is_kept)
-        carrier.medium.publish = note                   # type: ignore[method-assign]
-        self.sites[0].change("stock", -3)
-        carrier.close()
+        with patch.object(carrier.medium, "publish", note):
+            self.sites[0].change("stock", -3)
+            carrier.close()
         self.assertEqual((self.kept(), told[-1]), (f"1 {START + SALE}", f"{self.top}/0/mark"))
 
     def test_a_site_that_is_down_at_the_end_has_nothing_new_told(self) -> None:
@@ -195,10 +195,10 @@ class ToldMarkTest(Sites):
         site.change("stock", -3)
         self.carrier(0, refresh=0.1)
         self.await_it(lambda: self.kept() == f"1 {START + SALE}")
-        site.newest_mark = lambda: Mark(1, START)       # type: ignore[method-assign]
-        site.change("stock", -3)
-        time.sleep(0.5)
-        self.assertEqual(self.kept(), f"1 {START + SALE}")
+        with patch.object(site, "newest_mark", return_value=Mark(1, START)):
+            site.change("stock", -3)
+            time.sleep(0.5)
+            self.assertEqual(self.kept(), f"1 {START + SALE}")
 
     def test_a_start_of_the_process_is_told(self) -> None:
         self.carrier(0, refresh=NEVER)

@@ -10,6 +10,7 @@ import threading
 import time
 import unittest
 from collections.abc import Callable
+from functools import partial
 from typing import NamedTuple
 
 from broker import MISSING, Broker
@@ -43,8 +44,10 @@ class World(NamedTuple):
 
     def close(self) -> None:
         """Ends all of it."""
-        for it in (*self.carriers, *self.sites):
-            it.close()
+        for carrier in self.carriers:
+            carrier.close()
+        for site in self.sites:
+            site.close()
 
 
 class Worlds(unittest.TestCase):
@@ -199,7 +202,7 @@ class Worlds(unittest.TestCase):
         os.rename(folders[0], f"{folders[0]}-settled")
         os.rename(f"{folders[0]}-copy", folders[0])
         for id in (last, back):
-            self.assertIn(f"transaction {id} isn't in it", self.refused(lambda id=id: Site(folders[0], last_id=id)))
+            self.assertIn(f"transaction {id} isn't in it", self.refused(partial(Site, folders[0], last_id=id)))
         mark = last_mark(folders[0], self.medium())
         self.assertIn("older than --not-before", self.refused(lambda: Site(folders[0], not_before=mark)))
         with Site(folders[0], last_id=first) as site:   # its books have no later one: the carrier's mark is newer

@@ -16,6 +16,7 @@ import unittest
 from doors import Door, DoorTest, Hand, children_of
 from programs import LARGE, PACKAGES, SHOP, commits, escrow_site, of_shop, wait_until
 import escrow
+import escrow_carrier
 from escrow import Kind, Outcome, Share
 from escrow.door.places import Holder, Places
 
@@ -371,6 +372,11 @@ class ComeInTest(DoorTest):
         with self.assertRaises(escrow.Down) as raised:
             escrow.Site.connect(os.path.join(self.place, "none"), wait=0.1)
         self.assertIn("no door is there: start one: python3 -m escrow.door FOLDER --socket", str(raised.exception))
+
+    def test_a_carrier_wants_the_folder(self) -> None:
+        site = self.connected(self.door(SHOP))
+        with self.assertRaisesRegex(ValueError, f"^{site.folder}: a carrier reads the folder of its site, and this one is behind a door: "):
+            escrow_carrier.Carrier(site, escrow_carrier.Folder(f"{site.folder}.share"))
 
     def test_a_folder_is_served_once(self) -> None:
         door = self.door(SHOP)

@@ -229,7 +229,7 @@ class PieceTest(DoorTest):
         self.addCleanup(near.close)
         self.addCleanup(far.close)
         self.addCleanup(pipeline.reading.close)
-        pipeline.join(1, near, True)
+        pipeline.join(1, near, True, False)
         return pipeline
 
     def test_lines(self) -> None:

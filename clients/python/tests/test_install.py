@@ -51,7 +51,9 @@ class InstallTest(unittest.TestCase):
         """A shop gets the client, the broker's machine the broker, and neither a browser, nor what only the tests need."""
         shop, broker = ["python3-paho-mqtt"], ["mosquitto"]
         tests = [*broker, *shop, "python3-uvicorn", "chromium", "fonts-dejavu-core", "mypy", "golang-go"]
-        asked: list[tuple[list[str], list[str]]] = [(["--shop"], shop), (["--broker"], broker), ([], broker + shop), (["--tests"], tests)]
+        gate = ["gcc", "libc6-dev", "valgrind", "curl", "openssl", "python3-pytest", "python3-pip", *tests]
+        asked: list[tuple[list[str], list[str]]] = [
+            (["--shop"], shop), (["--broker"], broker), ([], broker + shop), (["--tests"], tests), (["--gate"], gate)]
         for words, packages in asked:
             told = "".join(f"install_clients: {it} is missing\n" for it in packages)
             self.assertEqual(self.run_copy(*words), (1, told, packages))
@@ -59,7 +61,7 @@ class InstallTest(unittest.TestCase):
 
     def test_other_words(self) -> None:
         """A word that is none installs nothing."""
-        told = "install_clients: --test is no flag: --shop, --broker, --tests and --check are\n"
+        told = "install_clients: --test is no flag: --shop, --broker, --tests, --gate and --check are\n"
         self.assertEqual(self.run_copy("--test"), (2, told, []))
 
 

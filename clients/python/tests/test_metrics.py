@@ -80,6 +80,7 @@ escrow_refusals_total{site="2",command="spare",number="9",reason="ledger full"} 
 # TYPE escrow_missed_total counter
 escrow_missed_total{site="2",outcome="busy"} 0
 escrow_missed_total{site="2",outcome="down"} 0
+escrow_missed_total{site="2",outcome="forgotten"} 0
 escrow_missed_total{site="2",outcome="lost"} 1
 escrow_missed_total{site="2",outcome="over"} 0
 escrow_missed_total{site="2",outcome="unknown"} 0
@@ -387,8 +388,9 @@ class OverASite(unittest.TestCase):
 
 
 SITE = (("site", "0"),)
-SHARES = {(("field", field), ("kind", kind)) + SITE: rights for field, kind, rights in
-          (("stock", "lower", 20), ("stock", "raise", 30), ("seats", "lower", 6), ("seats", "raise", 0))}
+SHARES: dict[tuple[tuple[str, str], ...], float] = {
+    (("field", field), ("kind", kind)) + SITE: rights for field, kind, rights in
+    (("stock", "lower", 20), ("stock", "raise", 30), ("seats", "lower", 6), ("seats", "raise", 0))}
 
 
 class Looked(programs.SiteTest):

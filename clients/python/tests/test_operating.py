@@ -95,7 +95,7 @@ class VersionTest(SiteTest):
 
     def test_another_version(self) -> None:
         for name, why in (("site", "isn't of escrow site 1 or 2: serve it by the version that made it"),
-                          ("log", "isn't the log of this site: put its own newest log back"),
+                          ("log", "isn't the log of this site, or is a later program's: serve it by that, or put its own newest log back"),
                           ("trace", "isn't the trace of this site: put its own newest trace back")):  # fmt: skip
             with self.subTest(name):
                 later = VERSION_1[name].replace(" 1\n", " 3\n", 1)

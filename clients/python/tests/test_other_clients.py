@@ -16,10 +16,12 @@ class OtherClientsTest(SiteTest):
     """A program in a folder of its own, which names the client by its path, without a network."""
 
     def run_page(self, name: str, **more: str) -> None:
-        """Types the block of the page of this client in a folder beside the checkout."""
+        """Types the blocks of the page of this client, one behind the other, in a folder beside the checkout."""
         with open(os.path.join(TOP, "clients", name, "README.md"), encoding="utf-8") as file:
-            block = max(re.findall(r"(?:^    .*\n|^\n)+", file.read(), re.M), key=len)
-        typed, _, printed = textwrap.dedent(block).strip("\n").rpartition("\n\n")
+            blocks = [it for it in re.findall(r"(?:^    .*\n|^\n)+", file.read(), re.M) if it.strip()]
+        each = [textwrap.dedent(it).strip("\n").rpartition("\n\n") for it in blocks]
+        self.assertEqual(len(each), 2)
+        typed, printed = ("\n".join(it[place] for it in each) for place in (0, 2))
         folder = os.path.join(self.place, "seller")
         os.mkdir(folder)
         os.symlink(TOP, os.path.join(self.place, "escrow"))

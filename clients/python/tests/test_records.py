@@ -1,4 +1,4 @@
-"""Reading the file of a log, of both versions: how long its records are, as far as it has come, and where a start stands.
+"""Reading the file of a log, of each version: how long its records are, as far as it has come, and where a start stands.
 The texts are typed by docs/FORMATS.md, and their sums made up: nobody looks at them here."""
 
 from __future__ import annotations
@@ -17,6 +17,8 @@ from escrow.records import Records, find_last, length_before_start, served_betwe
 
 HEAD_1 = b"escrow log 1\nnumber 0\nworld 00ff\n"
 HEAD_2 = b"escrow log 2\nnumber 0\nworld 00ff\nhead 0 0\nsum 0123456789abcdef\n"
+HEAD_3 = b"escrow log 3\nnumber 0\nworld 00ff\nhead 1000 70\nhorizon 1 2 1\nsum 0123456789abcdef\n"
+"""Of one that has let go of 1,000 bytes."""
 BATCHES = (b"R 1\n", b"C 1 1 0 -3\nC 1 2 0 -3\n", b"G 1 0 l 7\n", b"R 2\nS 2 1 0 50\nC 2 1 0 -1\n")
 """4, 22, 10 and 26 bytes."""
 WINDOWS = (8, 21, 64, 1 << 16)
@@ -30,6 +32,11 @@ def text_1(batches: Sequence[bytes] = BATCHES, torn: bytes = b"") -> bytes:
 def text_2(batches: Sequence[bytes] = BATCHES, torn: bytes = b"") -> bytes:
     """A log of version 2, each batch with its sum."""
     return HEAD_2 + b"".join(b"%ssum %016x\n" % (it, place) for place, it in enumerate(batches)) + torn
+
+
+def text_3(batches: Sequence[bytes] = BATCHES, torn: bytes = b"") -> bytes:
+    """A log of version 3: as one of version 2, behind another head."""
+    return HEAD_3 + text_2(batches, torn)[len(HEAD_2) :]
 
 
 class LogTest(unittest.TestCase):
@@ -54,11 +61,26 @@ class LogTest(unittest.TestCase):
 class LengthTest(LogTest):
     """How long the records are."""
 
-    def test_both_versions(self) -> None:
-        for make in (text_1, text_2):
+    def test_each_version(self) -> None:
+        """In the third with what was let go of."""
+        for make, gone in ((text_1, 0), (text_2, 0), (text_3, 1000)):
             for many, length in ((0, 0), (1, 4), (2, 26), (3, 36), (4, 62)):
                 self.write(make(BATCHES[:many]))
-                self.assertEqual(Records(self.path).length(), length, (make, many))
+                self.assertEqual(Records(self.path).length(), gone + length, (make, many))
+        self.write(text_3(torn=b"C 2 2 0 -1\nsum 00"))
+        self.assertEqual(Records(self.path).length(), 1062)
+
+    def test_a_log_is_shortened_while_it_is_looked_at(self) -> None:
+        """It is put in the place of the other, and its length only grows: a note of a key was let go of too."""
+        self.write(text_2((b"K 1 1 4B\nC 1 1 0 -3\n", *BATCHES)))
+        found = Records(self.path)
+        self.assertEqual(found.length(), 11 + 62)
+        with open(f"{self.path}.new", "wb") as file:
+            file.write(text_3(BATCHES[2:]).replace(b"head 1000 70", b"head 37 4"))
+        os.replace(f"{self.path}.new", self.path)
+        self.assertEqual(found.length(), 11 + 62)
+        self.add(b"C 2 2 0 -1\nsum 00000000000000ff\n")
+        self.assertEqual(found.length(), 11 + 62 + 11)
 
     def test_a_torn_end(self) -> None:
         """In version 1 it counts, as what stands in the file; in version 2 what no sum closes doesn't, wherever it is torn."""
@@ -142,7 +164,7 @@ class LengthTest(LogTest):
     def test_what_is_no_log(self) -> None:
         with self.assertRaises(OSError):
             Records(self.path).length()
-        for text in (b"", b"escrow log 1", text_2().replace(b"log 2", b"log 3", 1)):
+        for text in (b"", b"escrow log 1", text_2().replace(b"log 2", b"log 4", 1)):
             self.write(text)
             with self.assertRaises(Down) as down:
                 Records(self.path).length()
@@ -153,11 +175,13 @@ class StartTest(LogTest):
     """Where a start stands."""
 
     def test_the_length_before_it(self) -> None:
-        for make in (text_1, text_2):
+        for make, gone in ((text_1, 0), (text_2, 0), (text_3, 1000)):
             for window in WINDOWS:
                 with patch("escrow.records.WINDOW", window):
                     self.write(make())
-                    self.assertEqual([length_before_start(self.path, it) for it in (1, 2, 3)], [0, 36, None])
+                    self.assertEqual([length_before_start(self.path, it) for it in (1, 2, 3)], [gone, gone + 36, None])
+        self.write(text_3(BATCHES[3:]))  # the first start was let go of
+        self.assertEqual([length_before_start(self.path, it) for it in (1, 2)], [None, 1000])
         self.write(text_2((b"R 1\n", b"C 1 1 0 -1\nR 2\nC 2 1 0 -1\n")))  # a start within a batch
         self.assertEqual(length_before_start(self.path, 2), 15)
         for make in (text_1, text_2):  # and notes of keys in front of it
@@ -169,11 +193,13 @@ class StartTest(LogTest):
         nobody = (b"R 1\n", b"C 1 1 0 -3\n", b"R 2\n", b"R 3\nS 3 1 0 50\n")
         sold = (b"R 1\n", b"C 1 1 0 -3\n", b"R 2\n", b"C 2 1 0 -3\n", b"R 3\nS 3 1 0 50\n")
         other = (b"R 1\n", b"R 3\n")
-        for make in (text_1, text_2):
+        for make in (text_1, text_2, text_3):
             for batches, is_so in ((nobody, False), (sold, True), (other, True)):
                 self.write(make(batches))
                 self.assertIs(served_between(self.folder, Mark(1, 4), Mark(3, 0)), is_so, (make, batches))
                 self.assertFalse(served_between(self.folder, Mark(2, 4), Mark(3, 0)))
+        self.write(text_3((b"S 2 1 0 50\n", b"R 3\n")))  # what would tell was let go of
+        self.assertTrue(served_between(self.folder, Mark(1, 4), Mark(3, 0)))
         os.unlink(self.path)
         self.assertTrue(served_between(self.folder, Mark(1, 4), Mark(3, 0)))
 

@@ -39,7 +39,7 @@ class DiskTest(SiteTest):
         told = subprocess.run(words, capture_output=True, check=False)
         if told.returncode != 0:
             self.skipTest(f"no disk may be mounted here: {told.stderr.decode(errors='replace').strip()}")
-        self.addCleanup(subprocess.run, ["umount", "-l", self.disk], check=True)
+        self.addCleanup(lambda: subprocess.run(["umount", "-l", self.disk], check=True))
         self.filler = os.path.join(self.disk, "filler")
 
     def fill(self) -> None:

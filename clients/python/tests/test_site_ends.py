@@ -437,9 +437,10 @@ class FakeTest(SiteTest):
         return path
 
     def test_another_version_is_refused(self) -> None:
-        with self.assertRaises(escrow.Down) as raised:
-            escrow.Site(self.folder(), program=self.program("version"))
-        self.assertIn("isn't one that this client knows", str(raised.exception))
+        for how, told in (("version", "the program is newer than this client"), ("other", "isn't one that this client knows")):
+            with self.assertRaises(escrow.Down) as raised:
+                escrow.Site(self.folder(name=f"shop-{how}"), program=self.program(how))
+            self.assertIn(told, str(raised.exception))
 
     def test_a_program_that_is_never_ready(self) -> None:
         with self.assertRaises(escrow.Down):

@@ -333,6 +333,8 @@ class ExceptionsTest(SiteTest):
             escrow.Over("why", "9c1f0a2b-0-1.1", Cause.STOPPED),
             escrow.Busy("why"),
             escrow.Unknown("why", "9c1f0a2b-0-1.1", "order-17"),
+            escrow.Forgotten("9c1f0a2b-0-1.1", "order-17"),
+            escrow.Faulty("why"),
             escrow.NoKeys(),
             escrow.Down("why", 5),
             escrow.OtherSite("9c1f0a2b-1-1.1", 1, 0),

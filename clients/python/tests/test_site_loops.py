@@ -283,7 +283,7 @@ class AnswerTest(SiteTest):
         for size in (1, 2, 50, 70, 1000):
             line = Pipeline(0, "0" * 64, frozenset({"stock"}), lambda _: None, None)
             back, to = os.pipe()
-            line.stand(7, to)
+            line.stand(7, to, False)
             calls = [Change() for _ in range(4)]
             for call, amount in zip(calls, (-1, -9, -1, 2)):
                 call.shape, call.waiter = line.shape("stock", amount), None

@@ -94,12 +94,12 @@ class Door:
         except OSError as fault:
             return Ended(2, f"{self._command[0]}: {fault.strerror}: name escrow_site by --program or by $ESCROW_SITE")
         try:
-            mark = served.ready(self._signalled)
-            if mark is not None:
-                self._mark = mark
-                log.info("%s: the site stands: epoch %d, process %d", self.folder, mark.epoch, served.pid)
+            ready = served.ready(self._signalled)
+            if ready is not None:
+                self._mark = ready.mark
+                log.info("%s: the site stands: epoch %d, process %d", self.folder, ready.mark.epoch, served.pid)
                 assert self._listener is not None
-                Run(self._listener, self._signalled, self.site, self.folder, served, mark, self._limits).run()
+                Run(self._listener, self._signalled, self.site, self.folder, served, ready, self._limits).run()
         except Faulty as fault:
             log.error("%s: %s", self.folder, fault)
             served.kill()

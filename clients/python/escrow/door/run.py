@@ -23,6 +23,7 @@ from typing import NamedTuple
 from ..errors import Faulty
 from ..records import Records
 from ..schema import Identity
+from ..supervisor import Ready, ready_line
 from ..values import Mark
 from .connection import Connection, Gone
 from .plan import Part, Planner
@@ -52,15 +53,16 @@ class Run:
     """The loop, in one thread."""
 
     def __init__(
-        self, listener: socket.socket, signalled: int, site: Identity, folder: str, served: Served, mark: Mark, limits: Limits
+        self, listener: socket.socket, signalled: int, site: Identity, folder: str, served: Served, ready: Ready, limits: Limits
     ) -> None:
         """`signalled` can be read once this is to end."""
         self._listener, self._signalled, self._served, self._limits = listener, signalled, served, limits
+        mark = ready.mark
         self._mark, self._records = mark, Records(os.path.join(folder, "log"))
         self._newest()  # the first look reads the whole log
         self.planner = Planner(site.number, mark.epoch, [field.name for field in site.schema.fields], self._newest)
-        ready = f"ready 1 {mark.epoch} {mark.length}\n"
-        self._hello = f"escrow door {VERSION}\nnumber {site.number}\nworld {site.world}\n{site.schema.line()}\n{ready}".encode()
+        names = f"escrow door {VERSION}\nnumber {site.number}\nworld {site.world}\n{site.schema.line()}\n"
+        self._hello = f"{names}{ready_line(ready)}".encode()
         self._begun = f"{site.number} begin -> begun "
         self._token = os.open(os.devnull, os.O_RDONLY | os.O_CLOEXEC)
         self._connections: dict[int, Connection] = {}

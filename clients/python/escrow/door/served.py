@@ -11,7 +11,7 @@ from typing import NamedTuple, Optional
 
 from ..device import device_fault
 from ..room import has_room
-from ..supervisor import DISK, mark_of
+from ..supervisor import DISK, Ready, read_ready
 from ..values import Mark
 
 
@@ -47,8 +47,8 @@ class Served:
         """Its number."""
         return self._process.pid
 
-    def ready(self, signalled: int) -> Optional[Mark]:
-        """Waits for the two lines that it begins with: how far its log has come. None where it has ended before, or a signal
+    def ready(self, signalled: int) -> Optional[Ready]:
+        """Waits for the two lines that it begins with: what the first one tells. None where it has ended before, or a signal
         has come. Raises `Down` where it is another program."""
         poll, told = select.poll(), b""
         poll.register(self.back, select.POLLIN)
@@ -61,7 +61,7 @@ class Served:
                 return None
             told += piece
         os.set_blocking(self.back, False)
-        return mark_of(told.split(b"\n")[0])
+        return read_ready(told.split(b"\n")[0])
 
     def kill(self) -> None:
         """Ends it by force, with what it began."""

@@ -1,44 +1,56 @@
-//! A client of a served site of escrow: it starts `escrow_site serve FOLDER`, and many threads ask it at once. A client in another
-//! language is this: lines out, lines in, in the same order. docs/FORMATS.md has all of them.
+//! A client of a served site of escrow: it starts `escrow_site serve FOLDER`, or comes in by a door that serves a folder to many
+//! processes, and many threads ask it at once. A client in another language is this: lines out, lines in, in the same order.
+//! docs/FORMATS.md has all of them.
 //!
-//! A [`Site`] is one process, from its ready line to its end. It is started anew by a new one, and the changes in doubt are asked
-//! of by [`Site::kept`] first: `seller.rs` beside this crate does so. It has no time limits, and needs the standard library alone.
+//! A [`Site`] is one process, or one connection, from its ready line to its end. Behind a stop a new one is made, and asked by
+//! [`Site::kept`] of the changes in doubt: `seller.rs` beside this crate does so. It needs the standard library alone.
 #![deny(missing_docs)]
+mod door;
+mod lines;
+
+use lines::{lock, End, Heard, Lines};
 use std::cmp::Ordering;
+use std::collections::{HashMap, HashSet};
 use std::convert::Infallible;
 use std::fmt::{Debug, Display, Formatter};
-use std::io::{BufRead, BufReader, Error, Write};
+use std::io::{BufRead, BufReader, Error};
 use std::panic::{catch_unwind, resume_unwind, AssertUnwindSafe};
-use std::process::{Child, ChildStdin, ChildStdout, Command, ExitStatus, Stdio};
-use std::sync::{mpsc::channel, mpsc::Receiver, mpsc::Sender, Mutex};
+use std::process::{Child, Command, ExitStatus, Stdio};
+use std::sync::{Arc, Mutex};
 use std::thread::{self, JoinHandle};
+use std::time::{Duration, Instant};
 
-/// One process that serves a site. One that is dropped ends.
+/// One process that serves a site, or one connection to a door that does. One that is dropped ends.
 pub struct Site {
-    child: Child,
     world: String, // the first digits of the world's name
     number: String,
     epoch: u32,
-    input: Option<Mutex<Input>>,
+    may_forget: bool, // its log was shortened, or may be
+    header: String,   // of a door: it has the names of the fields
+    limit: Option<Duration>,
+    lines: Arc<Lines>,
+    child: Option<Child>,
     reader: Option<JoinHandle<Result<(), Fault>>>,
-}
-
-/// Who holds it writes lines, and notes each, in the same order, with whom to tell its reply. `begun`: the epoch's transactions.
-struct Input {
-    pipe: ChildStdin,
-    asked: Sender<(String, Sender<String>)>,
-    begun: u64,
+    keys: Mutex<HashMap<String, usize>>, // of changes that are under way
+    open: Mutex<HashSet<String>>,        // transactions, as lines name them
 }
 
 /// How a change went.
+#[must_use = "it may not be committed"]
 #[derive(Clone, Debug, PartialEq, Eq)]
 pub enum Change {
     /// It is committed, by this id.
     Committed(String),
     /// Nothing was changed: the reply of the site, as `refused 7 short 3`.
     Refused(String),
-    /// A stop left its answer out: [`Site::kept`] tells what became of this id at the next start. Never ask for it again before.
+    /// It was asked, and its answer is left out by a stop, or didn't come in time: [`Site::kept`] tells what became of this id,
+    /// over a new site where this one has ended. Never ask for it again before; by a key, do, with the same one. It has no id where
+    /// something came in between that no door tells.
     InDoubt(String),
+    /// A stop, or its time, came before the commit of this id: it isn't committed, and never will be. Ask anew.
+    Lost(String),
+    /// Nothing was begun by it: its time was up, or the process or the connection had ended, before it was asked. Ask anew.
+    Busy,
 }
 
 /// Why there is no site, or no answer.
@@ -48,10 +60,22 @@ pub enum Fault {
     /// The process has ended, before it served or with another status than 0: 6, another one has the folder; 5, the disk failed; 2
     /// or 3, standard error tells what to do.
     Ended(ExitStatus),
-    /// This line of the program is none that this client knows.
+    /// There is no way in by this door, or it has ended the connection, and why.
+    Door(String),
+    /// This line is none that this client knows.
     Line(String),
     /// No id of this site, or none that the log can tell of, and why: of another world or site, or of an epoch that isn't yet.
     Id(String),
+    /// No key: one is 1 to 64 of `A-Z a-z 0-9 . _ -`.
+    Key(String),
+    /// A stop, or the end of its time, came before the answer: it was asked nothing that changes anything.
+    Stopped,
+    /// The log was shortened, and a commit of this id, or with this key, may be among what it has let go of: neither yes nor no.
+    /// Nothing was committed by this call. Look into the program's own books, or into the archive of the log, and **never ask for
+    /// the same anew**.
+    Forgotten(String),
+    /// The program is newer than this client: its lines are of this version. Use a client of its release.
+    Newer(u32),
 }
 
 impl Display for Fault {
@@ -59,8 +83,12 @@ impl Display for Fault {
         match self {
             Fault::Io(fault) => Display::fmt(fault, out),
             Fault::Ended(status) => write!(out, "escrow_site has ended, {status}"),
-            Fault::Line(line) => write!(out, "escrow_site wrote a line of another version: {line:?}"),
-            Fault::Id(why) => out.write_str(why),
+            Fault::Line(line) => write!(out, "a line of another version: {line:?}"),
+            Fault::Key(key) => write!(out, "{key:?} is no key of 1 to 64 of A-Z a-z 0-9 . _ -"),
+            Fault::Stopped => out.write_str("it has ended, or its time was up, before the answer came"),
+            Fault::Forgotten(what) => write!(out, "{what}: the log has let go of what would tell: never ask for the same anew"),
+            Fault::Newer(version) => write!(out, "the program is newer than this client, which doesn't know version {version}"),
+            Fault::Door(why) | Fault::Id(why) => out.write_str(why),
         }
     }
 }
@@ -78,103 +106,229 @@ fn whole(text: &str) -> Option<u32> {
     text.parse().ok().filter(|it: &u32| it.to_string() == text)
 }
 
-fn is_field(text: &str) -> bool {
-    !text.is_empty() && text.bytes().all(|it| matches!(it, b'a'..=b'z' | b'0'..=b'9' | b'_'))
+/// What a ready line tells: the epoch, and whether the log was shortened, or may be.
+fn ready_of(line: &str) -> Result<(u32, bool), Fault> {
+    let words: Vec<&str> = line.split_whitespace().collect();
+    let told = match words[..] {
+        ["ready", version @ ("1" | "2"), epoch, _] => whole(epoch).map(|it| (it, version == "2")),
+        ["ready", version, ..] if whole(version) > Some(2) => return Err(Fault::Newer(whole(version).unwrap_or_default())),
+        _ => None,
+    };
+    told.ok_or_else(|| Fault::Line(line.to_string()))
 }
 
-/// Hands each reply to whom asked. A last line without a line feed is torn, and no answer; who still waits then hears of no reply.
-fn read_answers(mut output: BufReader<ChildStdout>, waiting: Receiver<(String, Sender<String>)>) -> Result<(), Fault> {
-    let mut line = String::new();
-    while output.read_line(&mut line).is_ok() && line.ends_with('\n') {
-        let (asked, teller) = waiting.try_recv().map_err(|_| Fault::Line(line.clone()))?;
-        let told = line.trim_end().strip_prefix(&asked).and_then(|it| it.strip_prefix(" -> "));
-        let reply = told.or(line.trim_end().strip_prefix("bad line ")).ok_or(Fault::Line(line.clone()))?;
-        let _ = teller.send(reply.to_string()); // of a bad line: its number, and what is wrong
-        line.clear();
-    }
-    Ok(())
+fn is_field(text: &str) -> bool {
+    (1..=32).contains(&text.len()) && text.bytes().all(|it| matches!(it, b'a'..=b'z' | b'0'..=b'9' | b'_'))
+}
+
+fn check_key(text: &str) -> Result<(), Fault> {
+    let is_key = (1..=64).contains(&text.len()) && text.bytes().all(|it| it.is_ascii_alphanumeric() || b"._-".contains(&it));
+    is_key.then_some(()).ok_or_else(|| Fault::Key(text.to_string()))
+}
+
+/// The reply by which a change is refused, of those to its begin and its escrow.
+fn refusal(heard: &Heard) -> Option<&String> {
+    heard.replies.iter().take(2).find(|it| *it != "granted" && !it.starts_with("begun "))
 }
 
 impl Site {
-    /// Starts the program over this folder, and reads `ready 1 EPOCH LENGTH` and the line of the restart.
+    /// Starts the program over this folder, and reads `ready 1 EPOCH LENGTH`, or 2, and the line of the restart.
     pub fn start(program: &str, folder: &str) -> Result<Site, Fault> {
         let whose = std::fs::read_to_string(format!("{folder}/site")).map_err(Fault::Io)?;
         let world =
             whose.lines().find_map(|it| it.strip_prefix("world ")).and_then(|it| it.get(..8)).unwrap_or_default().to_string();
         let folder = if folder.starts_with('-') { format!("./{folder}") } else { folder.to_string() }; // no option
         let mut command = Command::new(program);
-        let mut child = command.args(["serve", &folder]).stdin(Stdio::piped()).stdout(Stdio::piped()).spawn().map_err(Fault::Io)?;
+        let mut child =
+            command.args(["serve", &folder]).stdin(Stdio::piped()).stdout(Stdio::piped()).spawn().map_err(Fault::Io)?;
         let (pipe, mut output) = (child.stdin.take().expect("is piped"), BufReader::new(child.stdout.take().expect("is piped")));
         let mut told = String::new();
         let _ = output.read_line(&mut told).and_then(|_| output.read_line(&mut told));
-        let words: Vec<String> = told.split_whitespace().map(str::to_string).collect();
-        let is_ready = told.ends_with('\n') && words.len() >= 8 && words[..2] == ["ready", "1"] && !world.is_empty();
-        let Some(epoch) = is_ready.then(|| whole(&words[2])).flatten() else {
-            drop(pipe); // it ends
-            let status = child.wait().map_err(Fault::Io)?;
-            return Err(if status.success() { Fault::Line(told) } else { Fault::Ended(status) });
+        let (ready, restart) = told.split_once('\n').unwrap_or_default();
+        let number = restart.split_once(' ').filter(|_| restart.ends_with('\n') && !world.is_empty()).map(|it| it.0.to_string());
+        let told = ready_of(ready).and_then(|it| Ok((it, number.ok_or_else(|| Fault::Line(told.clone()))?)));
+        let ((epoch, may_forget), number) = match told {
+            Ok(told) => told,
+            Err(fault) => {
+                drop(pipe); // it ends
+                let status = child.wait().map_err(Fault::Io)?;
+                return Err(if status.success() { fault } else { Fault::Ended(status) });
+            }
         };
-        let (asked, waiting) = channel();
-        let reader = Some(thread::spawn(move || read_answers(output, waiting)));
-        let input = Some(Mutex::new(Input { pipe, asked, begun: 0 }));
-        Ok(Site { child, world, number: words[4].clone(), epoch, input, reader })
+        let lines = Lines::new(epoch, Box::new(pipe), None, true);
+        Ok(Site::new(world, number, String::new(), (epoch, may_forget), lines, Some(child), output))
     }
 
-    /// Sends lines that stand together, which `lines` makes of the number of the last transaction that begins with them; their
-    /// replies come in order. Fewer come where a stop leaves them out. What `lines` fails with comes through: nothing was sent.
-    fn ask<E>(&self, begins: u64, lines: impl FnOnce(u64) -> Result<Vec<String>, E>) -> Result<(u64, Vec<String>), E> {
-        let (teller, replies) = channel();
-        let mut input = self.input.as_ref().expect("is there until the end").lock().expect("no holder panics");
-        let lines = lines(input.begun + begins)?;
-        input.begun += begins;
-        let begun = input.begun;
-        lines.iter().for_each(|line| drop(input.asked.send((line.clone(), teller.clone()))));
-        let _ = input.pipe.write_all((lines.join("\n") + "\n").as_bytes()); // where it fails the output ends too
-        drop((input, teller));
-        Ok((begun, replies.iter().take(lines.len()).collect()))
+    /// Comes in by the door at this path (`python3 -m escrow.door FOLDER --socket PATH`), which other processes use too. Waits up to
+    /// ten seconds for one that isn't there yet.
+    pub fn connect(path: &str) -> Result<Site, Fault> {
+        let hello = door::come_in(path, Duration::from_secs(10))?;
+        let peer = || hello.input.get_ref().try_clone().map_err(Fault::Io);
+        let lines = Lines::new(hello.ready.0, Box::new(peer()?), Some(peer()?), hello.is_direct);
+        Ok(Site::new(hello.world, hello.number, hello.header, hello.ready, lines, None, hello.input))
+    }
+
+    fn new(
+        world: String,
+        number: String,
+        header: String,
+        (epoch, may_forget): (u32, bool),
+        lines: Arc<Lines>,
+        child: Option<Child>,
+        input: impl BufRead + Send + 'static,
+    ) -> Site {
+        let reads = lines.clone();
+        let reader = Some(thread::spawn(move || reads.read(input)));
+        let (keys, open) = (Mutex::default(), Mutex::default());
+        Site { world, number, epoch, may_forget, header, limit: None, lines, child, reader, keys, open }
+    }
+
+    /// From now on each call has this time, and the end of this site too, which is then by force. Over a process the writing itself
+    /// has none, where more is under way than its pipe holds (some 800 changes).
+    pub fn with_timeout(mut self, limit: Duration) -> Site {
+        self.limit = Some(limit);
+        self.lines.limit_writes(limit);
+        self
+    }
+
+    /// Whether the process, or the connection, hasn't ended yet, as far as is known.
+    pub fn is_up(&self) -> bool {
+        self.lines.is_up()
+    }
+
+    fn end_of_call(&self) -> End {
+        self.limit.and_then(|it| Instant::now().checked_add(it))
+    }
+
+    /// An id of this site, by how lines name it.
+    fn id_of(&self, line: &str) -> String {
+        format!("{}-{}-{line}", self.world, self.number)
+    }
+
+    fn check(&self, field: &str) -> Result<(), Change> {
+        if !is_field(field) {
+            return Err(Change::Refused(format!("{field:?} is no field")));
+        } else if self.lines.is_door() && !self.header.contains(&format!("\"name\":\"{field}\"")) {
+            return Err(Change::Refused(format!("{field}: no such field")));
+        }
+        Ok(())
     }
 
     /// A transaction of one change, below 0 to lower the field, in one trip. A program that dies meanwhile doesn't know its id.
     pub fn change(&self, field: &str, change: i64) -> Change {
-        match self.change_before(field, change, |_| Ok::<(), Infallible>(())) {
-            Ok(told) => told,
-            Err(never) => match never {},
+        if !self.lines.is_direct() {
+            return self.begin(field, change).map_or_else(|told| told, Transaction::commit);
+        // its id has to be known
+        } else if let Err(told) = self.check(field) {
+            return told;
+        }
+        let n = &self.number;
+        let lines = vec![format!("{n} begin"), format!("{n} escrow # {field} {change}"), format!("{n} commit #")];
+        self.changed(self.lines.ask(&format!("{n} change {field} {change}"), lines, self.end_of_call()))
+    }
+
+    /// How a change in one trip went.
+    fn changed(&self, heard: Heard) -> Change {
+        match refusal(&heard) {
+            _ if !heard.is_taken && self.lines.is_direct() => Change::Busy,
+            _ if !heard.is_taken => Change::InDoubt(String::new()), // behind a line that no door tells
+            Some(reply) => Change::Refused(reply.clone()),          // the commit then changes nothing
+            None if heard.replies.get(2).is_some_and(|it| it == "committed") => Change::Committed(self.id_of(&heard.id)),
+            None => Change::InDoubt(self.id_of(&heard.id)),
         }
     }
 
-    /// As [`Site::change`], with `write` called ahead of it: it writes the id into the program's own books. The id is known
-    /// beforehand, since nobody else begins transactions here. Of the last one in the books ask [`Site::kept`], at the next start.
-    /// What `write` fails with comes through: nothing was changed, and the id never comes again. It asks this site nothing; others
-    /// wait as long as it takes.
+    /// As [`Site::change`], with `write` called ahead of it: it writes the id into the program's own books. Of the last one in the
+    /// books ask [`Site::kept`], at the next start. What `write` fails with comes through: nothing was changed, and the id never comes
+    /// again. It asks this site nothing; over a process others wait as long as it takes, and over a door it costs a trip.
     pub fn change_before<E>(&self, field: &str, change: i64, write: impl FnOnce(&str) -> Result<(), E>) -> Result<Change, E> {
-        if !is_field(field) {
-            return Ok(Change::Refused(format!("{field:?} is no field")));
-        }
-        let (site, epoch, mut id, mut written) = (&self.number, self.epoch, String::new(), None);
-        let asked = self.ask(1, |begun| {
-            let (line, begin) = (format!("{epoch}.{begun}"), format!("{site} begin"));
-            id = format!("{}-{site}-{line}", self.world);
-            let told = catch_unwind(AssertUnwindSafe(|| write(&id)));
-            let lines = match told {
-                Ok(Ok(())) => vec![begin, format!("{site} escrow {line} {field} {change}"), format!("{site} commit {line}")],
-                _ => vec![begin, format!("{site} abort {line}")], // so that no other change has this id
+        if self.lines.is_door() {
+            return match self.begin(field, change) {
+                Ok(begun) => write(&begun.id).map(|()| begun.commit()), // dropped, it is aborted
+                Err(told) => Ok(told),
             };
-            written = Some(told);
-            Ok::<_, Infallible>(lines)
-        });
-        written.expect("was called").unwrap_or_else(|panic| resume_unwind(panic))?;
-        let told = asked.map_or(Vec::new(), |(_, told)| told);
-        Ok(match told.get(1) {
-            Some(reply) if reply != "granted" => Change::Refused(reply.clone()), // the commit then changes nothing
-            _ if told.get(2).is_some_and(|it| it == "committed") => Change::Committed(id),
-            _ => Change::InDoubt(id),
-        })
+        } else if let Err(told) = self.check(field) {
+            return Ok(told);
+        }
+        let (n, mut written) = (&self.number, Ok(Ok(())));
+        let make = |_, line: &str| {
+            let begin = format!("{n} begin");
+            written = catch_unwind(AssertUnwindSafe(|| write(&self.id_of(line))));
+            Ok(match written {
+                Ok(Ok(())) => vec![begin, format!("{n} escrow {line} {field} {change}"), format!("{n} commit {line}")],
+                _ => vec![begin, format!("{n} abort {line}")], // so that no other change has this id
+            })
+        };
+        let heard = self.lines.ask_program(1, make, self.end_of_call()).unwrap_or_else(|never: Infallible| match never {});
+        written.unwrap_or_else(|panic| resume_unwind(panic))?;
+        Ok(self.changed(heard))
     }
 
-    /// Whether the commit of this id is in the log: where it isn't it never will be. None where a stop came before the answer.
-    /// An id tells its world and its site; clients of earlier days told no site, and before that no world.
+    /// As [`Site::change`], in two trips, once for each key however often it is asked for: 1 to 64 of `A-Z a-z 0-9 . _ -`, as the
+    /// number of an order. The id is that of the commit that has the key, which may be an earlier one. So after anything but
+    /// `Refused` ask for the same again, with the same key. Over a log that may be shortened it takes a third trip: the fault is
+    /// `Forgotten` where an earlier one may have the key, and then nothing is committed.
+    pub fn change_by_key(&self, field: &str, change: i64, key: &str) -> Result<Change, Fault> {
+        check_key(key)?;
+        let others = |by: fn(&mut usize)| {
+            let mut keys = lock(&self.keys);
+            let many = keys.entry(key.to_string()).or_default();
+            by(many);
+            let left = *many;
+            keys.retain(|_, many| *many > 0);
+            left
+        };
+        others(|many| *many += 1);
+        let told = match self.begin(field, change) {
+            Ok(begun) => begun.commit_by_key(key),
+            Err(Change::Refused(why)) => {
+                let has_others = others(|_| ()) > 1; // asked ahead of what is kept: it may commit in between
+                self.kept_key(key).map(|kept| match kept {
+                    Some(id) => Change::Committed(id),
+                    None if has_others => Change::Busy,
+                    None => Change::Refused(why),
+                })
+            }
+            Err(told) => Ok(told),
+        };
+        others(|many| *many -= 1);
+        match told {
+            Err(Fault::Stopped) => Ok(Change::Busy),
+            told => told,
+        }
+    }
+
+    /// Begins a transaction by its first change. A process has places for 63, and a connection for at most 32, shared with the other
+    /// ones: it waits for one. The fault is how that went, never `Committed`.
+    pub fn begin(&self, field: &str, change: i64) -> Result<Transaction<'_>, Change> {
+        self.check(field)?;
+        let (n, end) = (&self.number, self.end_of_call());
+        if !self.lines.take_place(end) {
+            return Err(Change::Busy);
+        }
+        let mut begun = Transaction { site: self, line: String::new(), id: String::new(), is_open: false };
+        let lines = vec![format!("{n} begin"), format!("{n} escrow # {field} {change}")];
+        let heard = self.lines.ask(&format!("{n} open {field} {change}"), lines, end);
+        if !heard.is_taken {
+            return Err(Change::Busy);
+        }
+        (begun.id, begun.line, begun.is_open) = (self.id_of(&heard.id), heard.id.clone(), true);
+        lock(&self.open).insert(heard.id.clone());
+        match refusal(&heard) {
+            Some(reply) => Err(Change::Refused(reply.clone())),
+            None if heard.replies.len() == 2 => Ok(begun),
+            None => Err(Change::Lost(begun.id.clone())),
+        }
+    }
+
+    /// Whether the commit of this id is in the log: where it isn't it never will be. None where that isn't known yet: a stop, or the
+    /// end of its time, came before the answer, or the transaction is open. The fault is `Forgotten` where the log was shortened, and
+    /// has let go of what would tell: that isn't no. An id tells its world and its site; clients of earlier days told no site, and
+    /// before that no world.
     pub fn kept(&self, id: &str) -> Result<Option<bool>, Fault> {
         let fault = |why: &str| Fault::Id(format!("{id:?}: {why}"));
+        let (later, unbegun) =
+            ("its epoch is later than any of the log: an older log was put back", "no transaction of this id was begun yet");
         let (front, line) = id.rsplit_once('-').unwrap_or(("", id));
         let (world, site) = front.split_once('-').unwrap_or((front, &self.number));
         let numbers = line.split_once('.').and_then(|(epoch, number)| Some((whole(epoch)?, whole(number)?)));
@@ -184,42 +338,80 @@ impl Site {
         } else if site != self.number {
             return Err(fault(&format!("this id is of site {site}: ask that one")));
         }
-        let told = self.ask(0, |begun| match epoch.cmp(&self.epoch) {
-            Ordering::Greater => Err(fault("its epoch is later than any of the log: an older log was put back")),
-            Ordering::Equal if u64::from(number) > begun => Err(fault("no transaction of this id was begun yet")),
-            _ => Ok(vec![format!("kept {epoch}.{number}")]),
-        })?;
-        match told.1.first().map(String::as_str) {
-            None => Ok(None),
+        if lock(&self.open).contains(&format!("{epoch}.{number}")) {
+            return Ok(None);
+        }
+        let (asked, end) = (vec![format!("kept {epoch}.{number}")], self.end_of_call());
+        let heard = if self.lines.is_door() {
+            self.lines.ask(&asked[0].clone(), asked, end)
+        } else {
+            let ask = |begun, _: &str| match epoch.cmp(&self.epoch) {
+                Ordering::Greater => Err(fault(later)),
+                Ordering::Equal if u64::from(number) > begun => Err(fault(unbegun)),
+                _ => Ok(asked),
+            };
+            self.lines.ask_program(0, ask, end)?
+        };
+        match heard.replies.first().map(String::as_str) {
+            None | Some("open") => Ok(None),
             Some(reply @ ("yes" | "no")) => Ok(Some(reply == "yes")),
+            Some("forgotten") => Err(Fault::Forgotten(id.to_string())),
+            Some("later") => Err(fault(later)),
+            Some("unbegun") => Err(fault(unbegun)),
             Some(other) => Err(Fault::Line(other.to_string())),
         }
     }
 
-    /// Between which values the field lies, as `between 17 67`; None where a stop came before the answer.
+    /// The id of the commit that has this key; None where none has it by now: a change under way may commit yet. The fault is
+    /// `Forgotten` where the log was shortened, and may have let go of one.
+    pub fn kept_key(&self, key: &str) -> Result<Option<String>, Fault> {
+        check_key(key)?;
+        let asked = format!("kept key {key}");
+        let heard = self.lines.ask(&asked.clone(), vec![asked], self.end_of_call());
+        match heard.replies.into_iter().next() {
+            None => Err(Fault::Stopped),
+            Some(reply) if reply == "no" => Ok(None),
+            Some(reply) => self.id_told(reply, key).map(Some),
+        }
+    }
+
+    /// The id that a reply tells, of the commit that has a key.
+    fn id_told(&self, reply: String, key: &str) -> Result<String, Fault> {
+        if reply == "forgotten" {
+            return Err(Fault::Forgotten(key.to_string()));
+        }
+        let numbers = reply.split_once('.').and_then(|(epoch, number)| Some((whole(epoch)?, whole(number)?)));
+        numbers.map(|_| self.id_of(&reply)).ok_or(Fault::Line(reply)) // a program that doesn't know keys
+    }
+
+    /// Between which values the field lies, as `between 17 67`; None where a stop, or its time, came before the answer.
     pub fn read(&self, field: &str) -> Option<String> {
         self.look("read", field)
     }
 
-    /// How much may be sold and added here, as `share 17 33`; None where a stop came before the answer.
+    /// How much may be sold and added here, as `share 17 33`; None where a stop, or its time, came before the answer.
     pub fn share(&self, field: &str) -> Option<String> {
         self.look("share", field)
     }
 
     fn look(&self, what: &str, field: &str) -> Option<String> {
         let field = if is_field(field) { field } else { "?" }; // one line, whatever was given
-        let asked = self.ask(0, |_| Ok::<_, Infallible>(vec![format!("{} {what} {field}", self.number)]));
-        asked.map_or(None, |(_, mut told)| told.pop())
+        let line = format!("{} {what} {field}", self.number);
+        self.lines.ask(&line.clone(), vec![line], self.end_of_call()).replies.pop()
     }
 
     fn close(&mut self) -> Result<ExitStatus, Fault> {
-        drop(self.input.take());
+        self.lines.close();
+        if !self.lines.is_read(self.end_of_call()) {
+            self.lines.cut();
+            self.child.iter_mut().for_each(|it| drop(it.kill()));
+        }
         let read = self.reader.take().map_or(Ok(()), |it| it.join().expect("the reader doesn't panic"));
-        let ended = self.child.wait().map_err(Fault::Io);
+        let ended = self.child.as_mut().map_or(Ok(ExitStatus::default()), Child::wait).map_err(Fault::Io);
         read.and(ended)
     }
 
-    /// Closes the input, so that the process ends once all is answered.
+    /// Closes the input, so that all is answered, and waits for the end: of the process, or of the connection, whose status is 0.
     pub fn end(mut self) -> Result<ExitStatus, Fault> {
         self.close()
     }
@@ -228,5 +420,97 @@ impl Site {
 impl Drop for Site {
     fn drop(&mut self) {
         let _ = self.close();
+    }
+}
+
+/// A transaction that is open: what it sets aside is committed together. One that is dropped is aborted, and so is that of a
+/// process that dies.
+#[must_use = "one that is dropped is aborted"]
+pub struct Transaction<'a> {
+    site: &'a Site,
+    line: String,
+    id: String,
+    is_open: bool,
+}
+
+impl Transaction<'_> {
+    /// Its id, to be written into the program's own books ahead of the commit: [`Site::kept`] tells of it later.
+    pub fn id(&self) -> &str {
+        &self.id
+    }
+
+    /// Sets aside another change. The fault is `Refused`, by which the transaction stays open, or `Lost`.
+    pub fn change(&mut self, field: &str, change: i64) -> Result<(), Change> {
+        self.site.check(field)?;
+        let line = format!("{} escrow {} {field} {change}", self.site.number, self.line);
+        let heard = self.site.lines.ask(&line.clone(), vec![line], self.site.end_of_call());
+        match heard.replies.first() {
+            Some(reply) if reply == "granted" => Ok(()),
+            Some(reply) => Err(Change::Refused(reply.clone())),
+            None => Err(Change::Lost(self.take_back())),
+        }
+    }
+
+    /// Aborts it, where it is open still: its id.
+    fn take_back(&mut self) -> String {
+        if self.is_open {
+            self.is_open = false;
+            self.site.lines.tell(format!("{} abort {}", self.site.number, self.line));
+        }
+        self.id.clone()
+    }
+
+    /// Makes its changes permanent.
+    pub fn commit(self) -> Change {
+        self.commit_with(None).unwrap_or_else(|fault| Change::Refused(fault.to_string()))
+    }
+
+    /// As `commit`, once for each key: where a commit with the key is kept already nothing is changed, what was set aside comes back,
+    /// and the id is that of the earlier one. The fault is `Forgotten` where the log may have let go of that.
+    pub fn commit_by_key(self, key: &str) -> Result<Change, Fault> {
+        check_key(key)?;
+        if self.site.may_forget && self.is_open {
+            // to the program itself a key that it has let go of is a new one
+            match self.site.kept_key(key) {
+                Ok(None) => {}
+                Ok(Some(id)) => return Ok(Change::Committed(id)),
+                Err(Fault::Stopped) => return Ok(Change::Lost(self.id.clone())),
+                Err(fault) => return Err(fault),
+            }
+        }
+        self.commit_with(Some(key))
+    }
+
+    fn commit_with(mut self, key: Option<&str>) -> Result<Change, Fault> {
+        let (site, id) = (self.site, self.id.clone());
+        if !self.is_open {
+            return Ok(Change::Lost(id));
+        }
+        let (commit, abort) = (format!("{} commit {}", site.number, self.line), format!("{} abort {}", site.number, self.line));
+        let lines = match key {
+            None => vec![commit],
+            Some(key) if site.lines.is_door() => vec![format!("{commit} key {key}")], // it aborts by itself
+            Some(key) => vec![format!("{commit} key {key}"), abort],
+        };
+        let heard = site.lines.ask(&lines[0].clone(), lines, site.end_of_call());
+        self.is_open = false;
+        match heard.replies.into_iter().next() {
+            Some(reply) if reply == "committed" => Ok(Change::Committed(id)),
+            Some(reply) if key.is_none() || reply.starts_with("refused ") => Ok(Change::Refused(reply)),
+            Some(reply) => site.id_told(reply, key.unwrap_or_default()).map(Change::Committed),
+            None if heard.is_taken || !site.lines.is_direct() => Ok(Change::InDoubt(id)),
+            None => Ok(Change::Lost(id)),
+        }
+    }
+
+    /// Gives back what it has set aside.
+    pub fn abort(self) {}
+}
+
+impl Drop for Transaction<'_> {
+    fn drop(&mut self) {
+        self.take_back();
+        lock(&self.site.open).remove(&self.line); // its end was written before this
+        self.site.lines.give_place();
     }
 }

@@ -1,0 +1,141 @@
+//! A log that lets go of its front, over `$ESCROW_PYTHON/tests/forgetful_site.py`, which stands in for the program of the next
+//! release: nothing that it has let go of is sold twice. The other words of the environment are those of `door.rs`.
+use escrow_served::{Change, Fault, Site};
+use std::env::var;
+use std::fs;
+use std::io::{Read, Write};
+use std::os::unix::net::UnixStream;
+use std::process::{Child, Command, Stdio};
+use std::thread;
+use std::time::Duration;
+
+fn program() -> String {
+    format!("{}/tests/forgetful_site.py", var("ESCROW_PYTHON").unwrap())
+}
+
+/// The folder of a new site, which answers so.
+fn forgetful(name: &str, told: &str) -> String {
+    let folder = format!("{}/forgetful-{name}", var("ESCROW_PLACE").unwrap());
+    let mut create = Command::new(var("ESCROW_SITE").unwrap())
+        .args(["create", &folder, "--schema", "/dev/stdin", "--site", "0", "--name", "forgetful"])
+        .stdin(Stdio::piped())
+        .spawn()
+        .unwrap();
+    let header = r#"{"sites":2,"fields":[{"name":"stock","floor":0,"ceiling":100,"value":40}]}"#;
+    create.stdin.take().unwrap().write_all(format!("{header}\n").as_bytes()).unwrap();
+    assert!(create.wait().unwrap().success());
+    tell(&folder, told);
+    folder
+}
+
+/// Has it answer so from now on.
+fn tell(folder: &str, told: &str) {
+    fs::write(format!("{folder}/told.new"), told).unwrap();
+    fs::rename(format!("{folder}/told.new"), format!("{folder}/told")).unwrap();
+}
+
+/// How often anything was committed.
+fn sold(folder: &str) -> usize {
+    fs::read_to_string(format!("{folder}/commits")).map_or(0, |it| it.lines().count())
+}
+
+/// A door over the folder, which ends with it.
+struct Door(Child);
+
+impl Door {
+    fn new(folder: &str, path: &str) -> Door {
+        let words = ["-S", "-m", "escrow.door", folder, "--socket", path, "--program", &program()];
+        let mut command = Command::new(var("ESCROW_INTERPRETER").unwrap_or("python3".to_string()));
+        let child = command.args(words).env("PYTHONPATH", var("ESCROW_PYTHON").unwrap()).stderr(Stdio::null()).spawn().unwrap();
+        while !UnixStream::connect(path).is_ok_and(|mut it| it.read(&mut [0; 8]).is_ok_and(|many| many > 0)) {
+            thread::sleep(Duration::from_millis(5));
+        }
+        Door(child)
+    }
+}
+
+impl Drop for Door {
+    fn drop(&mut self) {
+        let _ = self.0.kill();
+        let _ = self.0.wait();
+    }
+}
+
+fn committed(told: Change) -> String {
+    match told {
+        Change::Committed(id) => id,
+        other => panic!("{other:?}"),
+    }
+}
+
+fn is_forgotten<T>(told: Result<T, Fault>, what: &str) -> bool {
+    matches!(told, Err(Fault::Forgotten(it)) if it == what)
+}
+
+/// What a site tells of what it has let go of.
+fn try_forgotten(folder: &str, site: &Site) {
+    let first = committed(site.change_by_key("stock", -3, "order").unwrap());
+    assert_eq!(committed(site.change_by_key("stock", -3, "order").unwrap()), first);
+    let begun = site.begin("stock", -3).unwrap();
+    assert_eq!((committed(begun.commit_by_key("order").unwrap()), sold(folder)), (first.clone(), 1));
+    assert_eq!((site.kept_key("order").unwrap(), site.kept_key("other").unwrap()), (Some(first.clone()), None));
+    tell(folder, r#"{"horizon": [1, 9]}"#);
+    assert!(is_forgotten(site.kept(&first), &first) && is_forgotten(site.kept_key("order"), "order"));
+    assert!(is_forgotten(site.change_by_key("stock", -3, "order"), "order"), "it would be sold twice");
+    assert!(is_forgotten(site.change_by_key("stock", -300, "order"), "order"), "it may be sold, and not short");
+    assert!(is_forgotten(site.begin("stock", -3).unwrap().commit_by_key("order"), "order"));
+    assert_eq!((site.share("stock"), sold(folder)), (Some("share 17 33".to_string()), 1));
+    tell(folder, r#"{"keyed": "forgotten"}"#);
+    assert!(is_forgotten(site.change_by_key("stock", -3, "new"), "new"));
+    tell(folder, r#"{"word": "perhaps"}"#);
+    assert!(matches!(site.kept(&first), Err(Fault::Line(it)) if it == "perhaps"));
+    assert!(matches!(site.kept_key("order"), Err(Fault::Line(it)) if it == "perhaps"));
+    assert!(matches!(site.change_by_key("stock", -3, "new"), Err(Fault::Line(it)) if it == "perhaps"));
+    assert_eq!((site.share("stock"), sold(folder)), (Some("share 17 33".to_string()), 1));
+}
+
+#[test]
+fn what_is_forgotten_is_never_sold_again() {
+    let folder = forgetful("folder", "{}");
+    let site = Site::start(&program(), &folder).unwrap();
+    try_forgotten(&folder, &site);
+    site.end().unwrap();
+    let folder = forgetful("behind-a-door", "{}");
+    let door = Door::new(&folder, &format!("{folder}.door"));
+    try_forgotten(&folder, &Site::connect(&format!("{folder}.door")).unwrap());
+    drop(door);
+}
+
+#[test]
+fn a_stop_leaves_it_in_doubt_for_good() {
+    let folder = forgetful("stopped", r#"{"stop": "behind", "then": {"horizon": [9, 0]}}"#);
+    let site = Site::start(&program(), &folder).unwrap();
+    let Change::InDoubt(id) = site.change("stock", -3) else { panic!("it was answered") };
+    drop(site);
+    let site = Site::start(&program(), &folder).unwrap();
+    assert!(is_forgotten(site.kept(&id), &id));
+    let told = site.kept(&id).unwrap_err().to_string();
+    assert!(told.starts_with(&id) && told.ends_with("never ask for the same anew"), "{told}");
+    assert_eq!(sold(&folder), 1);
+}
+
+#[test]
+fn a_log_that_is_whole_is_asked_nothing_more() {
+    let folder = forgetful("whole", r#"{"version": 1, "word": "perhaps"}"#);
+    let site = Site::start(&program(), &folder).unwrap();
+    committed(site.change_by_key("stock", -3, "order").unwrap());
+}
+
+#[test]
+fn a_newer_program_is_refused() {
+    let folder = forgetful("newer", r#"{"version": 3}"#);
+    let told = Site::start(&program(), &folder).err().unwrap();
+    assert!(matches!(told, Fault::Newer(3)) && told.to_string().contains("newer than this client"), "{told}");
+    let path = format!("{folder}.newer");
+    let listener = std::os::unix::net::UnixListener::bind(&path).unwrap();
+    thread::spawn(move || {
+        let hello = "escrow door 1\nnumber 0\nworld 0123456789\n{}\nready 3 1 4\n";
+        listener.accept().unwrap().0.write_all(hello.as_bytes()).unwrap();
+    });
+    assert!(matches!(Site::connect(&path), Err(Fault::Newer(3))));
+}
