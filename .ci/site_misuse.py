@@ -136,7 +136,7 @@ COMMAND_LINES: tuple[tuple[list[str], str], ...] = (
 
 
 GONE = "isn't there: put the newest log back; a site without it would sell again what it sold"
-OTHERS = "isn't the log of this site: put its own newest log back"
+OTHERS = "isn't the log of this site, or is a later program's: serve it by that, or put its own newest log back"
 NO_RECORD = "line {} is no record of this site: put its own newest log back"
 LOST = "the logs of these sites are lost: {}: nothing was closed: put the newest ones back to settle"
 
@@ -222,7 +222,7 @@ def refuse_folders(program: Program) -> None:
     refuses(program, site, ["create", "--schema", schema, "--site", "0", *NAMED], 3, there)
     nowhere = os.path.join(program.folder, "nowhere")
     for word in ("serve", "show"):
-        program.ends([word, nowhere], 3, "", f"{nowhere}/site: isn't there: a site's folder is made by create")
+        program.ends([word, nowhere], 3, "", f"{nowhere}/site: isn't there: look whether its disk is: a site's folder is made by create, once")
     for text, told in SITES:
         program.file("taken/site", text)
         for word in ("serve", "show"):
@@ -355,7 +355,7 @@ def refuse_folder_lists(program: Program) -> None:
         told = f"{twin}: is of site 0, as {first} is: name one folder for each site"
         program.ends([word, second, first, twin], 2, "", told)
         nowhere = os.path.join(program.folder, "nowhere")
-        told = f"{nowhere}/site: isn't there: a site's folder is made by create"
+        told = f"{nowhere}/site: isn't there: look whether its disk is: a site's folder is made by create, once"
         program.ends([word, first, nowhere], 3, "", told)
     told = "site 0: isn't among the folders: name the folders of all sites of the world"
     for word in ("check", "weave", "judge"):

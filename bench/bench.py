@@ -42,6 +42,7 @@ The scripts:
   length. A work reads all lines before it begins, and then weaves and judges what was done. With --work these
   alone.
 """
+from __future__ import annotations
 
 import argparse
 import filecmp
@@ -52,20 +53,32 @@ import subprocess
 import sys
 import tempfile
 import time
+from collections.abc import Iterable, Iterator, Sequence
+from typing import NamedTuple, Optional
 
 TOP = os.path.dirname(os.path.dirname(os.path.abspath(__file__)))
 RESTARTS = 20
 ILLEGAL = 3
+Programs = tuple[str, Optional[str]]
+"""The program, and the plain one where there is a compiler for it."""
 
 
-def header(sites, names, floor, ceiling, value):
+class Turn(NamedTuple):
+    """The seconds that passed, those of the processor, and the peak memory in KiB."""
+
+    passed: float
+    used: float
+    memory: int
+
+
+def header(sites: int, names: Sequence[str], floor: int, ceiling: int, value: int) -> str:
     rows = ",".join(
         f'{{"name":"{name}","floor":{floor},"ceiling":{ceiling},"value":{value}}}' for name in names
     )
     return f'{{"sites":{sites},"fields":[{rows}]}}\n'
 
 
-def one_site(lines, fields):
+def one_site(lines: int, fields: int) -> Iterator[str]:
     yield header(1, [f"stock{place}" for place in range(1, fields + 1)], 0, 100, 40)
     for place in range(lines - 1):
         number = place // 4 + 1
@@ -81,7 +94,7 @@ def one_site(lines, fields):
 class Mixed:
     """The lines of so many sites over so many fields, with the ids that the sites will give out."""
 
-    def __init__(self, lines, sites, fields):
+    def __init__(self, lines: int, sites: int, fields: int) -> None:
         self.lines = lines
         self.sites = sites
         self.fields = fields
@@ -90,16 +103,16 @@ class Mixed:
         self.issued = 0
         self.turn = 0
 
-    def begin(self, site):
+    def begin(self, site: int) -> str:
         self.numbers[site] += 1
         return f"{self.epochs[site]}.{self.numbers[site]}"
 
-    def restart(self, site):
+    def restart(self, site: int) -> str:
         self.epochs[site] += 1
         self.numbers[site] = 0
         return f"{site} restart\n"
 
-    def round(self):
+    def round(self) -> Iterator[str]:
         site, place = self.turn % self.sites, self.turn + self.turn // self.sites
         field, second = (f"stock{number % self.fields + 1}" for number in (place, place + 3))
         other = (site + 1) % self.sites
@@ -120,7 +133,7 @@ class Mixed:
         yield f"{site} read {second}\n"
         yield f"{site} share {field}\n"
 
-    def stop(self):
+    def stop(self) -> Iterator[str]:
         site = self.turn % self.sites
         if self.turn % 2 == 0:
             txn = self.begin(site)
@@ -129,7 +142,7 @@ class Mixed:
             yield f"{site} commit {txn} torn {self.turn % 30}\n"
         yield self.restart(site)
 
-    def all(self):
+    def all(self) -> Iterator[str]:
         names = [f"stock{place}" for place in range(1, self.fields + 1)]
         yield header(self.sites, names, 0, 10**12, 5 * 10**11)
         count, stops = 1, 0
@@ -143,7 +156,7 @@ class Mixed:
                     return
 
 
-def held(lines, sites, fields):
+def held(lines: int, sites: int, fields: int) -> Iterator[str]:
     """The sites hold 57 transactions of 16 escrows each, and then begin, escrow, commit and read."""
     names = [f"stock{place}" for place in range(1, fields + 1)]
     yield header(sites, names, 0, 10**12, 5 * 10**11)
@@ -165,7 +178,7 @@ def held(lines, sites, fields):
         )[turn % 4]
 
 
-def gifts(lines, amount):
+def gifts(lines: int, amount: int) -> Iterator[str]:
     """Site 0 gives so many rights to site 1, again and again; after each 1,000 gifts site 1 gives all of them back."""
     yield header(2, ["stock1"], -(10**15), 10**15, 10**15)
     for number in range(1, (lines + 1) // 2):
@@ -175,7 +188,7 @@ def gifts(lines, amount):
         yield f"deliver {number}\n"
 
 
-def quarter_restarts(lines):
+def quarter_restarts(lines: int) -> Iterator[str]:
     yield header(1, ["stock1"], 0, 100, 40)
     for place in range(lines - 1):
         epoch = place // 4
@@ -188,14 +201,14 @@ def quarter_restarts(lines):
         )[place % 4]
 
 
-def gifts_and_restarts(gifts, restarts):
+def gifts_and_restarts(gifts: int, restarts: int) -> Iterator[str]:
     yield header(2, ["stock1"], 0, 10**12, 5 * 10**11)
     yield from ["0 give 1 stock1 lower 1\n"] * gifts
     yield from ["0 restart\n"] * restarts
 
 
-def run(words, source, target, wanted=0):
-    """The seconds that passed, those of the processor, and the peak memory in KiB."""
+def run(words: Sequence[str], source: str, target: str, wanted: int = 0) -> Turn:
+    """Runs it over this file, into that one."""
     with open(source, "rb") as stdin, open(target, "wb") as stdout:
         start = time.perf_counter()
         child = subprocess.Popen(words, stdin=stdin, stdout=stdout)
@@ -204,13 +217,13 @@ def run(words, source, target, wanted=0):
     child.returncode = os.waitstatus_to_exitcode(status)
     if child.returncode != wanted:
         sys.exit(f"{words[0]} ended with {child.returncode}")
-    return passed, usage.ru_utime + usage.ru_stime, usage.ru_maxrss
+    return Turn(passed, usage.ru_utime + usage.ru_stime, usage.ru_maxrss)
 
 
-def tell(name, times, lines):
+def tell(name: str, times: Sequence[Turn], lines: int) -> tuple[float, float]:
     """Prints the best turn, and the seconds of the middle one, and returns both."""
     passed, used, memory = min(times)
-    middle = statistics.median(time[0] for time in times)
+    middle = statistics.median(it.passed for it in times)
     print(
         f"{name:8} {passed:8.3f} s, median {middle:8.3f} s  {used:8.3f} s of processor  "
         f"{lines / passed:12,.0f} lines/s  {memory / 1024:8.1f} MiB  {memory * 1024 / lines:6.0f} bytes/line"
@@ -218,12 +231,14 @@ def tell(name, times, lines):
     return passed, middle
 
 
-def measure(name, words, source, target, lines, turns):
+def measure(name: str, words: Sequence[str], source: str, target: str, lines: int, turns: int) -> float:
     """The seconds of the best turn."""
     return tell(name, [run(words, source, target) for _ in range(turns)], lines)[0]
 
 
-def beside(ours, theirs, source, targets, lines, turns):
+def beside(
+    ours: Sequence[str], theirs: Sequence[str], source: str, targets: tuple[str, str], lines: int, turns: int
+) -> float:
     """The seconds of our best turn, beside those of the plain program: the two take turns, so that what else the
     machine does falls on both."""
     pairs = [(run(ours, source, targets[0]), run(theirs, source, targets[1])) for _ in range(turns)]
@@ -238,7 +253,7 @@ def beside(ours, theirs, source, targets, lines, turns):
     return best
 
 
-def build_plain(folder):
+def build_plain(folder: str) -> str | None:
     """The plain program, where there is a compiler for it."""
     if shutil.which("rustc") is None:
         print("no rustc here: nothing to compare with")
@@ -249,14 +264,14 @@ def build_plain(folder):
     return plain
 
 
-def build(folder):
+def build(folder: str) -> Programs:
     """The program, and the plain one where there is a compiler for it."""
     subprocess.run([os.path.join(TOP, "escrow"), "prove"], check=True)
     program = os.path.join(TOP, "crates", "escrow", "out", "escrow")
     return program, build_plain(folder)
 
 
-def compare(name, script, folder, programs, turns):
+def compare(name: str, script: Iterable[str], folder: str, programs: Programs, turns: int) -> float:
     """The seconds that `escrow run` takes."""
     source, proved, written = (os.path.join(folder, part) for part in ("script", "proved", "written"))
     with open(source, "w", encoding="ascii") as file:
@@ -270,7 +285,7 @@ def compare(name, script, folder, programs, turns):
     return beside([program, "run"], [plain], source, (proved, written), lines, turns)
 
 
-def judges_alone(program, trace, folder, turns, ours, parts):
+def judges_alone(program: str, trace: str, folder: str, turns: int, ours: float, parts: float) -> None:
     """The seconds that the judge in one pass takes, and those of the one in parts, without the reading of the text."""
     behind, told = (os.path.join(folder, part) for part in ("behind", "told"))
     with open(trace, "rb") as source, open(behind, "wb") as target:
@@ -288,7 +303,7 @@ def judges_alone(program, trace, folder, turns, ours, parts):
     )
 
 
-def audit(name, script, folder, programs, turns):
+def audit(name: str, script: Iterable[str], folder: str, programs: Programs, turns: int) -> float:
     """The seconds that `escrow audit` takes on what `escrow run` writes."""
     source, trace, proved, written = (os.path.join(folder, part) for part in ("script", "trace", "proved", "written"))
     with open(source, "w", encoding="ascii") as file:
@@ -309,7 +324,7 @@ def audit(name, script, folder, programs, turns):
     return ours
 
 
-def audits(lines, folder, programs, turns):
+def audits(lines: int, folder: str, programs: Programs, turns: int) -> None:
     audit("one site", one_site(lines, 1), folder, programs, turns)
     audit("mixed", Mixed(lines // 10, 4, 8).all(), folder, programs, turns)
     audit("mixed", Mixed(lines, 4, 8).all(), folder, programs, turns)
@@ -324,7 +339,7 @@ def audits(lines, folder, programs, turns):
         print(f"a line of {lines:,} takes {whole / tenth / 10:.2f} times one of {lines // 10:,}")
 
 
-def restarts(lines, folder, program, turns):
+def restarts(lines: int, folder: str, program: str, turns: int) -> None:
     alone = (program, None)
     tenth = compare("a quarter restarts", quarter_restarts(lines // 10), folder, alone, turns)
     whole = compare("a quarter restarts", quarter_restarts(lines), folder, alone, turns)
@@ -336,7 +351,7 @@ def restarts(lines, folder, program, turns):
         print(f"a restart behind {gifts:,} gifts takes {(with_them - without) / count * 1e6:.0f} microseconds")
 
 
-def counters(lines, sites):
+def counters(lines: int, sites: int) -> Iterator[str]:
     """At each site in turn a begin, an escrow, a commit and a read, and a gift behind every fiftieth round."""
     yield header(sites, ["stock"], 0, 1_000_000_000, 500_000_000)
     done, number = 1, 0
@@ -351,7 +366,7 @@ def counters(lines, sites):
         done, number = done + len(rows), number + 1
 
 
-def works(lines, folder, program, turns):
+def works(lines: int, folder: str, program: str, turns: int) -> None:
     one_core = ["taskset", "-c", str(min(os.sched_getaffinity(0)))]
     # Each gift makes an acceptance more, and all entries with the header are to stay within the limit of lines.
     for asked in (lines // 10, lines - lines // 200):
@@ -367,20 +382,20 @@ def works(lines, folder, program, turns):
         print(f"         {verdict.stdout.strip()}")
 
 
-def build_desks():
+def build_desks() -> str:
     """The program of desks."""
     folder = os.path.join(TOP, "crates", "desk_bench")
     subprocess.run(["rt", "run", "--", "1", "1", "1"], cwd=folder, stdout=subprocess.DEVNULL, check=True)
     return os.path.join(folder, "out", "desk_bench")
 
 
-def serve(words):
+def serve(words: Sequence[str]) -> tuple[str, float]:
     """What it wrote, and the seconds that it tells."""
     ran = subprocess.run(["nice", "-n", "-5", *words], capture_output=True, text=True, check=True)
     return ran.stdout, int(ran.stderr.split()[-1]) / 1e9
 
 
-def desks(lines, plain, turns):
+def desks(lines: int, plain: str | None, turns: int) -> None:
     program = build_desks()
     rounds = str(lines // 4)
     print(f"desks: {lines // 4 * 4:,} calls a thread, best of {turns}")
@@ -398,7 +413,7 @@ def desks(lines, plain, turns):
         print(f"{told}  load {os.getloadavg()[0]:.1f}")
 
 
-def read_words():
+def read_words() -> argparse.Namespace:
     """What the command line asks for. Nothing is built or run before it was read."""
     parser = argparse.ArgumentParser(description=__doc__, formatter_class=argparse.RawDescriptionHelpFormatter)
     parser.add_argument("lines", type=int, nargs="?", default=1_000_000, help="1,000 or more")
@@ -412,7 +427,7 @@ def read_words():
     return asked
 
 
-def main():
+def main() -> None:
     asked = read_words()
     lines, turns = asked.lines, asked.turns
     with tempfile.TemporaryDirectory() as folder:

@@ -20,7 +20,8 @@ The rows:
 - `.., log 1`: the same over a log of version 1.
 - `client N tasks`: the Python client over a site of its own, in one process: N tasks of one loop, each with a change of -1 under
   way, by `change`.
-- `door P x N tasks`: the same in P processes of N tasks each, over one door (`python3 -m escrow.door`).
+- `door P x N tasks`: the same in P processes of N tasks each, over one door (`python3 -m escrow.door`); `door 1 of 4 x 1 tasks` is one
+  of four that have come in, while the others ask nothing.
 - `raw 1 deep`: a plain program (`bench/plain/raw_log.rs`) that the same client drives: it appends a record of 16 bytes,
   syncs it and answers.
 - `postgres N clients`: an UPDATE of one row, prepared, with the bound as its condition; by pgbench, over a socket. With --door
@@ -31,6 +32,7 @@ The rows:
 Needs Linux, the program (where `rt ci` or `rt run` left none in crates/escrow_site/out, the packed one, which `./escrow_site`
 unpacks), and `rustc` for the plain one.
 """
+from __future__ import annotations
 
 import argparse
 import asyncio
@@ -50,6 +52,12 @@ import tempfile
 import time
 from collections.abc import Callable, Iterator
 from dataclasses import dataclass
+from functools import partial
+from types import ModuleType
+from typing import IO, TYPE_CHECKING, Any
+
+if TYPE_CHECKING:
+    from escrow import AsyncSite, Site
 
 TOP = os.path.dirname(os.path.dirname(os.path.abspath(__file__)))
 HEADER = '{"sites":1,"fields":[{"name":"stock","floor":0,"ceiling":1000000000000000,"value":500000000000000}]}\n'
@@ -57,7 +65,8 @@ DEPTHS = (1, 8, 64, 1_024)
 UNSYNCED = (64, 1_024)
 COMPARED = (1, 64)
 TASKS = (1, 8, 64)
-DOORS = ((1, 1), (4, 2), (4, 16), (1, 64))
+DOORS = (((1,), "1 x 1"), ((1, 0, 0, 0), "1 of 4 x 1"), ((2,) * 4, "4 x 2"), ((16,) * 4, "4 x 16"), ((64,), "1 x 64"))
+"""The tasks of each process that comes in by the door."""
 CLIENTS = (1, 8, 64)
 MOST = 3_000_000
 LOWER = "local v = tonumber(redis.call('GET', KEYS[1])) if v >= 1 then return redis.call('DECRBY', KEYS[1], 1) end return -1"
@@ -106,9 +115,15 @@ def write_all(to: int, text: memoryview) -> None:
         text = text[os.write(to, text) :]
 
 
-def drive(child: subprocess.Popen, texts: Texts, lines: int, deep: int, seconds: float) -> float:
+def pipes(child: subprocess.Popen[Any]) -> tuple[IO[Any], IO[Any]]:
+    """What it reads and what it writes, of one that has both."""
+    assert child.stdin is not None and child.stdout is not None
+    return child.stdin, child.stdout
+
+
+def drive(child: subprocess.Popen[bytes], texts: Texts, lines: int, deep: int, seconds: float) -> float:
     """Keeps so many transactions under way, each answered by so many lines: how many were answered a second."""
-    to, back = child.stdin.fileno(), child.stdout.fileno()
+    to, back = (it.fileno() for it in pipes(child))
     sent, answered, start = 0, 0, time.perf_counter()
     end = start + seconds
     while time.perf_counter() < end and sent < MOST:
@@ -117,13 +132,13 @@ def drive(child: subprocess.Popen, texts: Texts, lines: int, deep: int, seconds:
         sent = upto
         told = os.read(back, 1 << 20)
         if not told:
-            sys.exit(f"{child.args[0]} ended")
+            sys.exit(f"{child.args!r} ended")
         answered += told.count(b"\n")
     return answered / lines / (time.perf_counter() - start)
 
 
 @contextlib.contextmanager
-def running(words: list[str], **how: object) -> Iterator[subprocess.Popen]:
+def running(words: list[str], **how: Any) -> Iterator[subprocess.Popen[Any]]:
     child = subprocess.Popen(words, **how)
     try:
         yield child
@@ -134,7 +149,7 @@ def running(words: list[str], **how: object) -> Iterator[subprocess.Popen]:
 
 def site_program() -> str | None:
     places = (os.path.join(TOP, *place, "out", "escrow_site") for place in (("crates", "escrow_site"), ("packed",)))
-    return next(filter(os.path.exists, places), None)
+    return next((it for it in places if os.path.exists(it)), None)
 
 
 def put(path: str, text: str) -> None:
@@ -223,32 +238,32 @@ class Clients:
         with client().Site(self.sites.kept, program=self.sites.program) as site:
             return self.told(name, [sell(site, tasks, seconds)])
 
-    def by_door(self, processes: int, tasks: int, name: str, seconds: float) -> float:
+    def by_door(self, tasks: tuple[int, ...], name: str, seconds: float) -> float:
         self.sites.make(2)
         path = os.path.join(self.sites.folder, "door")
         words = [sys.executable, "-m", "escrow.door", self.sites.kept, "--socket", path, "--program", self.sites.program]
         environment = {**os.environ, "PYTHONPATH": os.path.join(TOP, "clients", "python")}
         with running(words, env=environment, stderr=subprocess.DEVNULL), contextlib.ExitStack() as stack:
-            worker = [sys.executable, os.path.abspath(__file__), str(seconds), "--sell", path, str(tasks)]
-            pipes = {"stdin": subprocess.PIPE, "stdout": subprocess.PIPE, "text": True}
-            workers = [stack.enter_context(running(worker, **pipes)) for _ in range(processes)]
-            if any(it.stdout.readline() != "ready\n" for it in workers):
+            worker = [sys.executable, os.path.abspath(__file__), str(seconds), "--sell", path]
+            how = {"stdin": subprocess.PIPE, "stdout": subprocess.PIPE, "text": True}
+            workers = [pipes(stack.enter_context(running([*worker, str(many)], **how))) for many in tasks]
+            if any(back.readline() != "ready\n" for _, back in workers):
                 sys.exit("a client didn't come in by the door")
-            for it in workers:
-                it.stdin.write("begin\n")
-                it.stdin.flush()
-            return self.told(name, [json.loads(it.stdout.readline()) for it in workers])
+            for to, _ in workers:
+                to.write("begin\n")
+                to.flush()
+            found = [json.loads(back.readline()) for (_, back), many in zip(workers, tasks) if many]
+        return self.told(name, found)
 
     def rows(self, is_short: bool) -> Iterator[Row]:
         for tasks in (64,) if is_short else TASKS:
             name = f"client {tasks} tasks"
-            yield Row(name, lambda seconds, tasks=tasks, name=name: self.in_process(tasks, name, seconds))
-        for many, tasks in ((4, 16),) if is_short else DOORS:
-            name = f"door {many} x {tasks} tasks"
-            yield Row(name, lambda seconds, many=many, tasks=tasks, name=name: self.by_door(many, tasks, name, seconds))
+            yield Row(name, partial(self.in_process, tasks, name))
+        for each, told in DOORS[3:4] if is_short else DOORS:
+            yield Row(f"door {told} tasks", partial(self.by_door, each, f"door {told} tasks"))
 
 
-def client():
+def client() -> ModuleType:
     """The package of the Python client."""
     sys.path.insert(0, os.path.join(TOP, "clients", "python"))
     import escrow
@@ -256,11 +271,11 @@ def client():
     return escrow
 
 
-def sell(site, tasks: int, seconds: float) -> list[float]:
+def sell(site: Site, tasks: int, seconds: float) -> list[float]:
     """Sells by so many tasks: how many, in how many seconds, and how long half and 99 of 100 of them took at most."""
     took: list[float] = []
 
-    async def sells(shop, end: float) -> None:
+    async def sells(shop: AsyncSite, end: float) -> None:
         while (began := time.perf_counter()) < end:
             await shop.change("stock", -1)
             took.append(time.perf_counter() - began)
@@ -281,7 +296,10 @@ def work(path: str, tasks: int, seconds: float) -> None:
     with client().Site.connect(path) as site:
         print("ready", flush=True)
         sys.stdin.readline()
-        print(json.dumps(sell(site, tasks, seconds)), flush=True)
+        if tasks:
+            print(json.dumps(sell(site, tasks, seconds)), flush=True)
+        else:
+            sys.stdin.read()
 
 
 def client_rows(folder: str, is_short: bool, took: Took) -> Iterator[Row]:
@@ -291,11 +309,11 @@ def client_rows(folder: str, is_short: bool, took: Took) -> Iterator[Row]:
         yield from Clients(program, folder, took).rows(is_short)
 
 
-def epoch_of(child: subprocess.Popen) -> int:
+def epoch_of(child: subprocess.Popen[bytes]) -> int:
     """The epoch that the served site tells: it stands in the entry of its restart."""
     told = b""
     while not (found := re.search(rb"restart -> restarted (\d+) \w+\n", told)):
-        piece = os.read(child.stdout.fileno(), 1 << 16)
+        piece = os.read(pipes(child)[1].fileno(), 1 << 16)
         if not piece:
             sys.exit("escrow_site ended before it was ready")
         told += piece
@@ -312,8 +330,8 @@ def raw_rows(folder: str) -> Iterator[Row]:
     texts = Texts(lambda number: b"append\n")
 
     def measure(seconds: float) -> float:
-        pipes = {"stdin": subprocess.PIPE, "stdout": subprocess.PIPE, "bufsize": 0}
-        with running([program, os.path.join(folder, "raw")], **pipes) as child:
+        how = {"stdin": subprocess.PIPE, "stdout": subprocess.PIPE, "bufsize": 0}
+        with running([program, os.path.join(folder, "raw")], **how) as child:
             return drive(child, texts, 1, 1, seconds)
 
     yield Row("raw 1 deep", measure)
@@ -336,21 +354,21 @@ def as_postgres() -> list[str]:
 @contextlib.contextmanager
 def postgres(folder: str, programs: str) -> Iterator[str]:
     """A server over a folder of its own, with the one row: the folder of its socket."""
-    data, quiet = os.path.join(folder, "postgres"), {"stdout": subprocess.DEVNULL, "check": True}
+    data, quiet = os.path.join(folder, "postgres"), partial(subprocess.run, stdout=subprocess.DEVNULL, check=True)
     os.mkdir(data)
     if os.geteuid() == 0:
         owner = pwd.getpwnam("postgres")
         os.chown(data, owner.pw_uid, owner.pw_gid)
-    subprocess.run([*as_postgres(), f"{programs}/initdb", "-D", f"{data}/base", "-A", "trust", "-U", "bench"], **quiet)
+    quiet([*as_postgres(), f"{programs}/initdb", "-D", f"{data}/base", "-A", "trust", "-U", "bench"])
     options = f"-c listen_addresses= -c unix_socket_directories={data} -c max_connections=100"
     control = [*as_postgres(), f"{programs}/pg_ctl", "-D", f"{data}/base", "-w"]
-    subprocess.run([*control, "-o", options, "-l", f"{data}/log", "start"], **quiet)
+    quiet([*control, "-o", options, "-l", f"{data}/log", "start"])
     try:
         rows = "CREATE TABLE stock (id int PRIMARY KEY, value bigint); INSERT INTO stock VALUES (1, 500000000000000);"
-        subprocess.run(["psql", "-q", "-h", data, "-U", "bench", "-d", "postgres", "-c", rows], **quiet)
+        quiet(["psql", "-q", "-h", data, "-U", "bench", "-d", "postgres", "-c", rows])
         yield data
     finally:
-        subprocess.run([*control, "-m", "immediate", "stop"], **quiet)
+        quiet([*control, "-m", "immediate", "stop"])
 
 
 def add_logged(logs: str, name: str, took: Took) -> None:
@@ -376,11 +394,11 @@ def postgres_rows(folder: str, socket: str, took: Took | None) -> Iterator[Row]:
         told = subprocess.run([*words, "postgres"], capture_output=True, text=True, check=True).stdout
         if took is not None:
             add_logged(logs, name, took)
-        return float(re.search(r"tps = ([0-9.]+)", told)[1])
+        return float(re.findall(r"tps = ([0-9.]+)", told)[0])
 
     for clients in CLIENTS:
         name = f"postgres {clients} clients"
-        yield Row(name, lambda seconds, clients=clients, name=name: measure(clients, name, seconds))
+        yield Row(name, partial(measure, clients, name))
 
 
 @contextlib.contextmanager
@@ -421,7 +439,7 @@ def redis_rows(socket: str, took: Took | None) -> Iterator[Row]:
 
     for clients, under_way in [*((clients, 1) for clients in CLIENTS), (64, 64)]:
         name = f"redis {clients} clients{'' if under_way == 1 else f' -P {under_way}'}"
-        yield Row(name, lambda seconds, how=(clients, under_way, name): measure(*how, seconds))
+        yield Row(name, partial(measure, clients, under_way, name))
 
 
 RATIOS = (
@@ -431,9 +449,12 @@ RATIOS = (
     ("door 1 x 1 tasks", "client 1 tasks"),
     ("client 64 tasks", "postgres 64 clients"),
     ("client 64 tasks", "redis 64 clients"),
+    ("door 1 of 4 x 1 tasks", "client 1 tasks"),
+    ("door 1 of 4 x 1 tasks", "postgres 1 clients"),
     ("door 1 x 1 tasks", "postgres 1 clients"),
     ("door 4 x 2 tasks", "postgres 8 clients"),
     ("door 4 x 16 tasks", "postgres 64 clients"),
+    ("door 1 of 4 x 1 tasks", "redis 1 clients"),
     ("door 1 x 1 tasks", "redis 1 clients"),
     ("door 4 x 2 tasks", "redis 8 clients"),
     ("door 4 x 16 tasks", "redis 64 clients"),

@@ -1,18 +1,24 @@
 #!/usr/bin/env python3
-"""Writes the parts of two pages that are made from the sources, each between a line of begin and one of end.
+"""Writes the parts of three pages that are made from the sources, each between a line of begin and one of end.
 
     tools/page_parts.py [--check]
 
-docs/ARCHITECTURE.md, `graph`: each crate of crates.txt, by its floors, the crates that it stands on (those that others imply left
-out), those whose proof files it cites, and the kit's libraries. The crates *_tests are left out.
+docs/ARCHITECTURE.md, `graph`: each crate of crates.txt, by its floors, and the crates that it stands on (those that others imply
+left out). The crates *_tests and the kit's libraries are left out.
 
-docs/DEFINITIONS.md, `index`: each definition of crates/*/specs that the contract of an exported function or trait
-names, or that an exported type is seen as, by file, with the file's first sentence. Laws (functions whose body is
-empty) and worked rows don't count. What the page tells by hand is left out: a name that one crate alone has counts
-wherever it stands, and any other in a bullet or a paragraph that names its crate.
+docs/DEFINITIONS.md, `believed`: what the main promises rest on, by tools/believed.py. What of it the page doesn't tell by hand
+is a fault.
 
-With --check nothing is written, and the status is 1 where a page isn't as it would be written. It needs Python 3.10 and
-its standard library alone.
+docs/DEFINITIONS.md, `index`: by crate, the files of crates/*/specs with a definition that the contract of an exported function
+or trait names, or that an exported type is seen as. Laws (functions whose body is empty) and worked rows don't count. What the
+page tells by hand is left out: a name that one crate alone has counts wherever it stands, and any other in a bullet or a
+paragraph that names its crate.
+
+docs/CHANGING.md, `stops`: the crates, and the folders beside them, of the files that name a command, a reply, a refusal, a limit
+or a kind of record; tools/stops.py has the files.
+
+With --check nothing is written, and the status is 1 where a page isn't as it would be written. It needs Python 3.10, git and
+the standard library alone.
 """
 from __future__ import annotations
 
@@ -20,76 +26,38 @@ import glob
 import os
 import re
 import sys
-import textwrap
 from collections.abc import Callable, Iterator
 from typing import NamedTuple
 
+from believed import table, untold
+from sources import floors_of, text_of, wrapped
+from stops import found, joined
+
 WORD = re.compile(r"\w+")
 THEOREM = {"field_bounds", "kept_state", "world_steps"}  # the page tells their words by hand
-SOURCES = re.compile(r" ?\((?:this project|O'Neil|Balegas)[^()]*\)")
-
-
-def text_of(file: str) -> str:
-    with open(file, encoding="utf-8") as it:
-        return it.read()
-
-
-def wrapped(text: str, first: str = "", rest: str = "") -> str:
-    """Lines of at most 120 characters, of which none ends within backticks."""
-    held = re.sub(r"`[^`]*`", lambda it: it[0].replace(" ", "\0"), text)
-    wrapper = textwrap.TextWrapper(
-        120, initial_indent=first, subsequent_indent=rest, break_long_words=False, break_on_hyphens=False
-    )
-    return wrapper.fill(held).replace("\0", " ")
+PART = re.compile(r"(<!-- (\w+): made by tools/page_parts.py -->\n)(.*?)(<!-- \2: end -->\n)", re.S)
 
 
 # ---- the graph
-
-
-def floors_of() -> list[tuple[str, dict[str, list[str]]]]:
-    """What crates.txt has: each block's comment, with its crates and what each stands on."""
-    floors: list[tuple[str, dict[str, list[str]]]] = []
-    for line in text_of("crates.txt").splitlines()[1:]:
-        head, _, needs = line.partition(":")
-        if line.startswith("#"):
-            floors.append((line[1:].strip(), {}))
-        elif line:
-            floors[-1][1][head.split()[0]] = needs.split()
-    return floors
 
 
 def needs_of() -> dict[str, list[str]]:
     return {crate: needs for _, floor in floors_of() for crate, needs in floor.items()}
 
 
-def cited_proofs(crate: str) -> set[str]:
-    texts = [text_of(file) for file in glob.glob(f"crates/{crate}/proofs/**/*.antt", recursive=True)]
-    return {it for text in texts for it in re.findall(r"Rattle\.(\w+)\.proofs", text)} & needs_of().keys() - {crate}
-
-
 def graph() -> str:
     needs, below, texts = needs_of(), dict[str, set[str]](), list[str]()
     for comment, floor in floors_of():
-        lines = [wrapped(comment, "    # ", "    # ")]
+        lines = [f"    # {comment.partition(':')[0].rstrip('.')}"]
         for crate, named in floor.items():
             crates = [it for it in named if it in needs]
             below[crate] = set(crates).union(*(below[it] for it in crates))
             if not crate.endswith("_tests"):
-                lines.append(line_of(crate, named, crates, needs, below))
+                implied = set[str]().union(*(below[it] for it in crates))
+                told = ", ".join(it for it in crates if it not in implied) or "no crate"
+                lines.append(wrapped(f"{crate}: {told}", "    ", "        "))
         texts.append("\n".join(lines))
     return "\n\n".join(texts)
-
-
-def line_of(crate: str, named: list[str], crates: list[str], needs: dict[str, list[str]], below: dict[str, set[str]]) -> str:
-    """A crate, what it stands on, whose proofs it cites, and the kit's libraries."""
-    implied = set[str]().union(*(below[it] for it in crates))
-    proofs = cited_proofs(crate)
-    told = [", ".join(it for it in crates if it not in implied) or "no crate"]
-    if proofs:
-        told.append("proofs of " + ", ".join(it for it in needs if it in proofs))
-    if len(crates) < len(named):
-        told.append("kit: " + ", ".join(it for it in named if it not in needs))
-    return wrapped(f"{crate}: {'; '.join(told)}", "    ", "        ")
 
 
 # ---- the index
@@ -103,14 +71,7 @@ class Definition(NamedTuple):
 
 def names_of(file: str) -> list[str]:
     """The definitions of a file, in order."""
-    return re.findall(r"^(?:(?:abbrev|unfoldable) pub|pub record) ([A-Za-z_]\w*)", text_of(file), re.M)
-
-
-def sentence_of(file: str) -> str:
-    """The first sentence of the comment that a file begins with, sources left out."""
-    comment = re.match(r"(?:--.*\n)*", text_of(file))
-    said = " ".join(line[2:].strip() for line in (comment[0] if comment else "").splitlines())
-    return re.split(r"[.:] ", SOURCES.sub("", said))[0].removesuffix(".")
+    return re.findall(r"^(?:(?:abbrev|unfoldable) pub|pub record|pub data) ([A-Za-z_]\w*)", text_of(file), re.M)
 
 
 def exported(crate: str) -> set[str]:
@@ -156,39 +117,68 @@ def index(rest: str) -> str:
         for name in names_of(file):
             owners.setdefault(name, set()).add(crate)
     for crate, of_crate in files.items():
-        told = told_by_hand(rest, crate, owners)
+        told, shown = told_by_hand(rest, crate, owners), list[str]()
         for file in of_crate:
             module = os.path.basename(file).removesuffix(".antt")
-            if module.startswith("Worked"):
-                continue
-            shown = [it for it in names_of(file) if Definition(crate, module, it) in cited and it not in told]
-            if shown:
-                names = ", ".join(f"`{it}`" for it in shown)
-                lines.append(wrapped(f"`{file}`. {sentence_of(file)}: {names}", "- ", "  "))
+            if not module.startswith("Worked") and any(Definition(crate, module, it) in cited for it in {*names_of(file)} - told):
+                shown.append(f"`{module}.antt`")
+        if shown:
+            lines.append(wrapped(f"`{crate}`: {', '.join(shown)}", "- ", "  "))
+    return "\n".join(lines)
+
+
+# ---- the stops
+
+
+def stops() -> str:
+    """Each crate and each folder beside the crates, with the cases of its files."""
+    crates, folders = dict[str, list[str]](), dict[str, list[str]]()
+    for file, letters in found().items():
+        parts = file.split("/")
+        if parts[0] == "crates":
+            crates.setdefault(parts[1], []).append(letters)
+        else:
+            folder = ".ci" if parts[0] == ".ci" else os.path.dirname(file) or "."
+            folders.setdefault(folder, []).append(letters)
+    floors = [(comment, {it: crates[it] for it in floor if it in crates}) for comment, floor in floors_of()]
+    lines = list[str]()
+    for comment, shown in [*floors, ("Beside the crates", folders)]:
+        if shown:
+            told = " ".join(f"{name}({joined(letters)})" for name, letters in shown.items())
+            lines += [f"    # {comment.partition(':')[0].rstrip('.')}", wrapped(told, "    ", "    ")]
     return "\n".join(lines)
 
 
 # ---- the pages
 
 
-def with_part(page: str, name: str, made: Callable[[str], str]) -> str:
-    """The page with a part made anew; what makes it sees the rest of the page."""
-    begin, end = f"<!-- {name}: made by tools/page_parts.py -->\n", f"<!-- {name}: end -->\n"
-    before, there, behind = page.partition(begin)
-    _, ended, after = behind.partition(end)
-    if not there or not ended:
-        sys.exit(f"page_parts.py: a page has no part {name} between its two lines")
-    return f"{before}{begin}\n{made(before + after)}\n\n{end}{after}"
-
-
 def told_by_hand(rest: str, crate: str, owners: dict[str, set[str]]) -> set[str]:
     """The definitions of a crate that the rest of the page tells."""
     told: set[str] = set()
     for block in re.split(r"\n(?=- )|\n\n", rest):
-        names = {name for it in re.findall(r"`([^`]*)`", block) for name in WORD.findall(it)}
+        names = words_in_backticks(block)
         own = crate in THEOREM or crate in names
         told.update(name for name in names if own or owners.get(name) == {crate})
     return told
+
+
+def words_in_backticks(text: str) -> set[str]:
+    return {name for it in re.findall(r"`([^`]*)`", text) for name in WORD.findall(it)}
+
+
+PAGES: dict[str, dict[str, Callable[[str], str]]] = {
+    "docs/ARCHITECTURE.md": {"graph": lambda _: graph()},
+    "docs/DEFINITIONS.md": {"believed": lambda _: table(), "index": index},
+    "docs/CHANGING.md": {"stops": lambda _: stops()},
+}
+
+
+def made_anew(page: str, makers: dict[str, Callable[[str], str]]) -> str:
+    """The page with its parts made anew; what makes one sees what was written by hand."""
+    rest = PART.sub("", page)
+    if [it[1] for it in PART.findall(page)] != list(makers):
+        sys.exit(f"page_parts.py: a page hasn't the parts {', '.join(makers)}, each between its two lines")
+    return PART.sub(lambda it: f"{it[1]}\n{makers[it[2]](rest)}\n\n{it[4]}", page)
 
 
 def main() -> int:
@@ -196,23 +186,21 @@ def main() -> int:
     if sys.argv[1:] not in ([], ["--check"]):
         print(__doc__, file=sys.stderr)
         return 2
-    made: dict[str, Callable[[str], str]] = {
-        "docs/ARCHITECTURE.md": lambda page: with_part(page, "graph", lambda _: graph()),
-        "docs/DEFINITIONS.md": lambda page: with_part(page, "index", index),
-    }
-    faults = 0
-    for file, make in made.items():
+    faults = list[str]()
+    for file, makers in PAGES.items():
         page = text_of(file)
-        anew = make(page)
-        if anew == page:
-            continue
-        if sys.argv[1:]:
-            print(f"{file}: isn't as tools/page_parts.py writes it", file=sys.stderr)
-            faults = 1
-        else:
+        anew = made_anew(page, makers)
+        if "believed" in makers:
+            faults += [f"{file}: tells nothing of {it.name} ({it.file}), on which a promise rests"
+                       for it in untold(words_in_backticks(PART.sub("", page)))]
+        if anew != page and sys.argv[1:]:
+            faults.append(f"{file}: isn't as tools/page_parts.py writes it")
+        elif anew != page:
             with open(file, "w", encoding="utf-8") as out:
                 out.write(anew)
-    return faults
+    for fault in faults:
+        print(fault, file=sys.stderr)
+    return 1 if faults else 0
 
 
 if __name__ == "__main__":
