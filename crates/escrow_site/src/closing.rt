@@ -3,11 +3,9 @@
 ghost use Rattle.std.specs.Prelude.{◌≡◌, true};
 
 use crate::creating::{sync_path, write_file};
-use crate::fault::{Fault, Why, device_fault, failed, not_closed, refused};
-use crate::folder::Paths;
-use crate::opening::{open_named, open_sealed};
-use crate::worlds::SiteFolder;
 use file_medium::{FileFailed, HostFile, LogFile};
+use folder_faults::{Fault, Why, device_fault, failed, not_closed, refused};
+use folder_serving::{open_named, open_sealed};
 use named_log::NamedLog;
 use sealed_log::Ends;
 use sealed_text::{end_batch, sum_line};
@@ -16,6 +14,7 @@ use std::alloc::Global;
 use std::fs::File;
 use std::os::unix::fs::FileExt;
 use std::{fs, io};
+use world_folders::{Paths, SiteFolder};
 
 // What stands in the file of a folder that was closed, for people: that it is there is what counts.
 const SETTLED: &[u8] = b"escrow settled 1\n";

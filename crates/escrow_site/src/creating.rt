@@ -1,12 +1,12 @@
 //! The command `create`.
 
-use crate::fault::{Fault, Why, asked, failed, header_words, refused, unread};
-use crate::folder::Paths;
+use folder_faults::{Fault, Why, asked, failed, header_words, refused, unread};
 use site_folder::{Identity, IdentityFault, sealed_log_name, write_identity};
 use std::alloc::Global;
 use std::fs::File;
 use std::io::{ErrorKind, Write};
 use std::{fs, io};
+use world_folders::Paths;
 
 // The header that a schema's file tells: its bytes, without one line feed at the end.
 fn header_of(text: &[u8]) -> &[u8] {

@@ -2,12 +2,9 @@
 
 ghost use Rattle.std.specs.Prelude.{◌≢◌, None};
 
-use crate::fault::{Fault, Why, failed, refused};
-use crate::progress::tell_reading;
-use crate::tracing::read_kept_entries;
-use crate::worlds::{SiteFolder, World, read_world};
 use field_bounds::SiteNo;
 use file_medium::FileFailed;
+use folder_faults::{Fault, Why, failed, refused};
 use script_input::{Sink, Watched};
 use site_folder::trace_name;
 use std::alloc::Global;
@@ -16,6 +13,7 @@ use std::io;
 use std::io::ErrorKind;
 use std::os::unix::fs::FileExt;
 use trace_windows::{ReadAt, TraceWindow, TraceWindows, WindowFault};
+use world_folders::{SiteFolder, World, read_kept_entries, read_world, tell_reading};
 use woven_verdict::{Verdict, VerdictFault, judge_histories, verdict_line};
 
 /// How many bytes of a trace are read at a time.

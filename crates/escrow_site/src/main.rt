@@ -5,23 +5,18 @@
 mod checking;
 mod closing;
 mod creating;
-mod fault;
-mod folder;
 mod judging;
-mod opening;
-mod progress;
-mod reading;
+mod locking;
 mod serving;
 mod settling;
 mod showing;
 mod tracing;
 mod unsynced;
 mod weaving;
-mod worlds;
 
 use clap::Error;
 use clap::error::ErrorKind;
-use fault::Fault;
+use folder_faults::Fault;
 use site_tasks::{Task, read_task};
 use std::process::ExitCode;
 

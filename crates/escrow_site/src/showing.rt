@@ -1,56 +1,19 @@
 //! The command `show`.
 
-ghost use Rattle.std.specs.Prelude.{◌≡◌, ◌≤◌, ◌<◌, length, pos, neg_ℤ, IfOk, ◌+ℤ◌, ◌-ℤ◌, ◌≤ℤ◌, string_bytes};
+ghost use Rattle.std.specs.Prelude.{◌≡◌, ◌≤◌, ◌<◌, length, pos, neg_ℤ, ◌+ℤ◌, ◌-ℤ◌, ◌≤ℤ◌};
 ghost use Rattle.field_bounds.specs.Limits.{max_quantity};
 ghost use Rattle.field_bounds.specs.Owed.{max_change};
 ghost use Rattle.field_bounds.specs.Parts.{field_at};
 ghost use Rattle.site_rights.specs.Rights.{guarded_at};
-ghost use Rattle.escrow_site.specs.Logs.{ShowsLog};
 
-use crate::fault::Fault;
-use crate::folder::{Paths, bad_record, read_site, replay_folder};
-use crate::reading::ReadsFiles;
 use field_bounds::{FieldNo, Kind, Schema, SiteNo};
+use folder_faults::Fault;
 use gift_ledger::{FieldAccounts, Ledger};
-use log_replay::{LogReplayed, Standing};
+use log_replay::Standing;
 use site_folder::Identity;
 use site_rights::Rights;
-use std::alloc::Global;
 use std::io;
-
-/// What the records of a log stand for, and their length in bytes.
-#[derive(Drop)]
-struct Shown {
-    length: usize,
-    standing: Standing,
-}
-
-// Takes in the records of the log.
-fn read_records<R: ReadsFiles>(
-    files: &R,
-    alloc: Global,
-    paths: &Paths,
-    identity: &Identity,
-) -> Result<Shown, Fault>
-    ensures fields { IfOk result (λ shown. length shown.standing.rights
-        ≡ length identity.now.schema.fields) }
-    ensures shown { IfOk result (λ shown. ShowsLog (R.holds files.now)
-        (string_bytes paths.now.log) identity.now shown.standing shown.length) }
-{
-    match replay_folder(
-        files,
-        alloc,
-        paths,
-        identity,
-        identity.schema(),
-        identity.number(),
-    )? {
-        LogReplayed::Standing { standing, length } => Ok(Shown { length, standing }),
-        LogReplayed::BadLine { number } | LogReplayed::BreaksRule { number } => {
-            Err(bad_record(alloc, paths, number))
-        }
-    }
-}
+use world_folders::{Paths, Shown, read_records, read_site};
 
 // A floor raised by rights.
 fn raise_by(bound: i64, by: u64) -> i64

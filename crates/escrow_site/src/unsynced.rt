@@ -1,20 +1,9 @@
-//! A file of the system that isn't synced, and what files tell of a call that failed.
+//! A file of the system that isn't synced.
 
 ghost use Rattle.std.specs.Prelude.{None};
 
 use file_medium::{FileFailed, FileFault, HostFile, LogFile};
-
-/// A file that tells which call of it failed, and why.
-pub(crate) trait TellsFault: LogFile + Drop {
-    /// The last call that failed, where one did.
-    fn take_fault(&mut self) -> Option<FileFault>;
-}
-
-impl TellsFault for HostFile {
-    fn take_fault(&mut self) -> Option<FileFault> {
-        HostFile::take_fault(self)
-    }
-}
+use world_folders::TellsFault;
 
 /// A log whose bytes are safe from a stop of the process, and not from one of the machine: a sync
 /// is answered without one. Read, and not proved, as `HostFile` is.

@@ -1,41 +1,17 @@
 //! The command `weave`.
 
-ghost use Rattle.std.specs.Prelude.{◌≤◌, IfOk, length};
-ghost use Rattle.escrow_site.specs.Traces.{AreHistoriesRead};
+ghost use Rattle.std.specs.Prelude.{◌≤◌, length};
 
-use crate::fault::Fault;
-use crate::reading::ReadsFiles;
-use crate::tracing::read_kept_entries;
-use crate::worlds::{World, read_world};
 use entry_text::append_entry;
-use field_bounds::{Entry, Schema, SiteNo};
+use field_bounds::{Entry, Schema};
+use folder_faults::Fault;
 use script_input::{Sink, Watched};
 use std::alloc::{AllocError, Global};
 use trace_weave::{WeaveFault, WovenEntries, weave_order};
+use world_folders::{World, read_histories, read_world};
 
 /// How many bytes gather before they are written.
 const PIECE: usize = 65_536;
-
-// The entries of all sites that their logs have the records of, in the order of the sites.
-fn read_histories<R: ReadsFiles>(
-    files: &R,
-    alloc: Global,
-    world: &World,
-) -> Result<Vec<Vec<Entry>>, Fault>
-    ensures few { IfOk result (λ histories. length histories.items ≤ 65535) }
-    ensures read { IfOk result (λ histories. AreHistoriesRead (R.holds files.now)
-        world.now.folders.items world.now.schema histories.items) }
-{
-    let mut histories = Vec::new(alloc);
-    for number in 0..world.schema.sites() {
-        let site = SiteNo(number);
-        let folder = world.named_folder(site)?;
-        files.tell_reading(folder.paths.folder.as_str(), site, world.schema.sites());
-        let entries = read_kept_entries(files, alloc, &folder.paths, &folder.identity)?;
-        histories.push(entries)?;
-    }
-    Ok(histories)
-}
 
 // One trace of all sites: the order in which it takes the entries of the histories.
 fn order_of(alloc: Global, histories: &[Vec<Entry>]) -> Result<Vec<u16>, Fault>

@@ -1,5 +1,0 @@
-mod Pushed
-mod FolderLemmas
-mod ReadLogs
-mod Gathered
-mod Ready

@@ -1,6 +1,0 @@
-pub mod Reading
-pub mod Folders
-pub mod Logs
-pub mod Lost
-pub mod Traces
-pub mod Serving

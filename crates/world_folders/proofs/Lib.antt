@@ -1,0 +1,4 @@
+mod Pushed
+mod FolderLemmas
+mod ReadLogs
+mod Gathered

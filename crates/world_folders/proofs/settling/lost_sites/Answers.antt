@@ -1,0 +1,36 @@
+use Rattle.std.proofs.Common.{true, false, ap, ◌∙◌, refl, arith}
+use Rattle.field_bounds.specs.declared.id.SiteNo.{SiteNo}
+use Rattle.world_folders.specs.Lost.{TellsLost}
+use Rattle.world_folders.proofs.FolderLemmas.{lost_more, others_more, others_past}
+use Rattle.world_folders.proofs.settling.lost_sites.Goals as goal
+use Rattle.world_folders.proofs.settling.lost_sites.Goals.{then-branch+in_ok-push, else-branch}
+
+pub loop-number-preserved : goal.loop-number-preserved
+loop-number-preserved g c =
+    let stands = g.R.ReadsFiles.stands c.args.files.now in
+    let folders = c.args.world.now.folders.items in
+    let old = c.loop-number.lost.items in
+    let n = c.loop-number.number in
+    let site : SiteNo = record { 0 = n } in
+    let inv = c.loop-number.invariant in
+    elim c.if-branch.branch [
+      | then-branch+in_ok-push w ↦
+          let is = ap (λ v. v.items) w.lost-is ∙ w.in_ok-push.ensures.items in
+          let told : TellsLost stands folders n true = rw w.if-branch.true at c.in_ok-is_lost.ensures.told in
+          rw is (record {
+            each = lost_more stands folders old site told inv.each;
+            others = others_past stands folders old n site refl inv.others;
+          })
+      | else-branch w ↦
+          let told : TellsLost stands folders n false = rw w.if-branch.false at c.in_ok-is_lost.ensures.told in
+          rw w.lost-is (record { each = inv.each; others = others_more stands folders old n told inv.others })
+    ]
+
+pub returns : goal.returns
+returns g c = record {
+  lost = record {
+    each = c.loop-number.invariant.each;
+    others = λ s less among. c.loop-number.invariant.others s
+        (omega (arith, less, c.loop-number-test.false, c.sites-number-end.ensures.value)) among;
+  };
+}

@@ -1,0 +1,5 @@
+pub mod Reading
+pub mod Folders
+pub mod Logs
+pub mod Lost
+pub mod Traces

@@ -1,0 +1,64 @@
+-- Which logs of a world are lost, and what those that are there come to (this project).
+use Rattle.std.specs.Prelude.{◌≡◌, ◌≢◌, ◌<◌, ◌⊎◌, ℕ, Bool, true, false, List, length, Option, Some, None, Result, Ok, Err, string_bytes, slice_index_or, All}
+use Rattle.field_bounds.specs.Schema.{SchemaValue}
+use Rattle.field_bounds.specs.declared.id.SiteNo.{SiteNo}
+use Rattle.kept_records.specs.declared.record.Record.{Record}
+use Rattle.log_replay.specs.declared.standing.Standing.{Standing}
+use Rattle.world_logs.specs.declared.field_state.FieldRange.{FieldRange}
+use Rattle.world_logs.specs.Lost.{known_log, AreRanges}
+use Rattle.world_logs.specs.LostFaults.{KnownWithin}
+use Rattle.world_folders.specs.declared.worlds.SiteFolder.{SiteFolder}
+use Rattle.world_folders.specs.Reading.{IsSeen}
+use Rattle.world_folders.specs.Folders.{IsFolderOf, HasNoFolder}
+use Rattle.world_folders.specs.Logs.{StandsAsRead, BreaksAsRead, IsLogRead}
+
+-- The folder of the site was named, and it was seen whether a log is in it.
+pub record SeesLog (stands : List ℕ → Bool → Type 0) (folders : List SiteFolder) (s : ℕ) (there : Bool) : Type 0 where
+  pub folder : SiteFolder
+  pub own : IsFolderOf folders s folder
+  pub seen : IsSeen stands (string_bytes folder.paths.log) there
+
+-- The log of the site is lost where no folder of it was named, or none is in its folder; else it isn't.
+abbrev pub TellsLost : (List ℕ → Bool → Type 0) → List SiteFolder → ℕ → Bool → Type 0
+TellsLost stands folders s true = HasNoFolder folders s ⊎ SeesLog stands folders s false
+TellsLost stands folders s false = SeesLog stands folders s true
+
+-- The site is not among these.
+abbrev pub IsNotAmong : List SiteNo → ℕ → Type 0
+IsNotAmong lost s = All (λ site. site.0 ≢ s) lost
+
+-- These are the sites whose logs are lost: the log of each of them is, and of no other site of the world.
+pub record AreLost (stands : List ℕ → Bool → Type 0) (folders : List SiteFolder) (schema : SchemaValue) (lost : List SiteNo) : Type 0 where
+  pub each : All (λ site. TellsLost stands folders site.0 true) lost
+  pub others : (s : ℕ) → s < schema.sites → IsNotAmong lost s → TellsLost stands folders s false
+
+-- What the log of a site came to, as it was read: no standing is for one that is lost, and each other one was read.
+abbrev pub IsKnownOutcome : (List ℕ → List ℕ → Type 0) → List SiteFolder → SchemaValue → List SiteNo → ℕ → Result (Option Standing) ℕ → Type 0
+IsKnownOutcome holds folders schema lost s (Ok None) = IsNotAmong lost s → ⊥
+IsKnownOutcome holds folders schema lost s (Ok (Some standing)) = StandsAsRead holds folders schema s standing
+IsKnownOutcome holds folders schema lost s (Err number) = BreaksAsRead holds folders schema s number
+
+-- The same of all sites, in their order.
+pub record AreKnownOutcomes (holds : List ℕ → List ℕ → Type 0) (folders : List SiteFolder) (schema : SchemaValue) (lost : List SiteNo)
+    (outcomes : List (Result (Option Standing) ℕ)) : Type 0 where
+  pub count : length outcomes ≡ schema.sites
+  pub each : (s : ℕ) → s < schema.sites → IsKnownOutcome holds folders schema lost s (slice_index_or outcomes s (Err 0))
+
+-- For each site, in order, there is the standing for its own log, and none where that is lost.
+pub record KnownAsRead (holds : List ℕ → List ℕ → Type 0) (folders : List SiteFolder) (schema : SchemaValue) (lost : List SiteNo)
+    (standings : List (Option Standing)) : Type 0 where
+  pub count : length standings ≡ schema.sites
+  pub each : (s : ℕ) → s < schema.sites → IsKnownOutcome holds folders schema lost s (Ok (slice_index_or standings s None))
+
+-- These are all the records of the log of a site, as it was read, or it is lost.
+abbrev pub IsKnownLog : (List ℕ → List ℕ → Type 0) → List SiteFolder → List SiteNo → ℕ → Option (List Record) → Type 0
+IsKnownLog holds folders lost s None = IsNotAmong lost s → ⊥
+IsKnownLog holds folders lost s (Some rs) = IsLogRead holds folders s rs
+
+-- The logs that are there were read, and bound each field so: no site has accepted more than was given.
+pub record BoundsAsRead (holds : List ℕ → List ℕ → Type 0) (folders : List SiteFolder) (schema : SchemaValue) (lost : List SiteNo)
+    (ranges : List FieldRange) : Type 0 where
+  pub known : List (Option (List Record))
+  pub read : (s : ℕ) → s < schema.sites → IsKnownLog holds folders lost s (known_log known s)
+  pub within : KnownWithin schema known
+  pub bounds : AreRanges schema known ranges
