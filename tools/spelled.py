@@ -216,7 +216,7 @@ def faults_of_texts(made: Tables) -> Iterator[str]:
     """A refusal with a number and other words than it has, in any file but a wrong body and what tests of bad lines have."""
     words = {it.number: it.words for it in made.refusals.values()} | REMARKS
     for file in tracked(("docs/", "crates/", "clients/", "bench/", "examples/", "include/", "tools/", ".ci/", "README.md")):
-        if "/must-fail/" in file or file == "crates/escrow_audit_tests/src/tests.rt":
+        if "/must-fail/" in file or file == "crates/judge_tests/src/of_escrow_audit.rt":
             continue
         for number, told in re.findall(r"\brefused ([1-9]\d*) ([a-z]+(?: [a-z]+)*)", text_of(file)):
             due = words.get(int(number), "")
