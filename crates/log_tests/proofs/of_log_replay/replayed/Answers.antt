@@ -1,7 +1,7 @@
 use Rattle.std.proofs.Common.{arith, subst}
 use Rattle.log_replay.specs.declared.log.Replayed.{Replayed}
 use Rattle.log_replay.specs.Replayed.{TellsStanding}
-use Rattle.log_replay_tests.proofs.tests.replayed.Goals as goal
+use Rattle.log_tests.proofs.of_log_replay.replayed.Goals as goal
 
 pub read_off-requires-clause-place : goal.read_off-requires-clause-place
 read_off-requires-clause-place c =

@@ -12,7 +12,7 @@ use Rattle.kept_records.specs.Stands.{Lawful}
 use Rattle.log_replay.specs.declared.log.Replayed.{Replayed}
 use Rattle.log_replay.specs.Replayed.{TellsStanding}
 use Rattle.log_replay.specs.Resuming.{IsEnd}
-use Rattle.log_replay_tests.proofs.tests.resumed.Goals as goal
+use Rattle.log_tests.proofs.of_log_replay.resumed.Goals as goal
 
 gave : {A E : Type 0} (P : A → Type 0) (r : Result A E) (x : A) → Some x ≡ result_ok r → IfOk r P → P x
 gave P (Ok a) x is h = subst P (sym (same_Some x a is)) h

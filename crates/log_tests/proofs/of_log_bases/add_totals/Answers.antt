@@ -1,5 +1,5 @@
 use Rattle.std.proofs.Common.{arith}
-use Rattle.log_bases_tests.proofs.tests.add_totals.Goals as goal
+use Rattle.log_tests.proofs.of_log_bases.add_totals.Goals as goal
 
 pub total-requires : goal.total-requires
 total-requires c = record {

@@ -6,7 +6,7 @@ use Rattle.kept_records.specs.Stands.{may_follow}
 use Rattle.log_replay.specs.declared.log.Replayed.{Replayed}
 use Rattle.log_replay.specs.Replayed.{TellsStanding}
 use Rattle.log_replay.specs.Standing.{Stands}
-use Rattle.log_replay_tests.proofs.tests.told_after_gift.Goals as goal
+use Rattle.log_tests.proofs.of_log_replay.told_after_gift.Goals as goal
 
 pub summary_after-requires-clause-may : goal.summary_after-requires-clause-may
 summary_after-requires-clause-may c =
