@@ -1,6 +1,6 @@
 use Rattle.std.proofs.lemmas.Result.{IfOk-weaker}
 use Rattle.world_logs.proofs.NoneBroken.{are_for_logs}
-use Rattle.world_logs_tests.proofs.tests.standings_of.Goals as goal
+use Rattle.folder_tests.proofs.of_world_logs.standings_of.Goals as goal
 
 pub returns : goal.returns
 returns g c =

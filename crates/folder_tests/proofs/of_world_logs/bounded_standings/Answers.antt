@@ -1,5 +1,5 @@
 use Rattle.world_logs.proofs.NoneBroken.{are_for_known}
-use Rattle.world_logs_tests.proofs.tests.bounded_standings.Goals as goal
+use Rattle.folder_tests.proofs.of_world_logs.bounded_standings.Goals as goal
 
 pub bound_standings-requires : goal.bound_standings-requires
 bound_standings-requires g c = record {

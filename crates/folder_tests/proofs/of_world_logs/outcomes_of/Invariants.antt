@@ -1,12 +1,12 @@
 use Rattle.std.proofs.Common.{◌≡◌, ◌<◌, ℕ, length}
 use Rattle.std.specs.Prelude.{slice_index_or, Err}
-use Rattle.world_logs.specs.LostBody.{StandsIfKnown}
+use Rattle.world_logs.specs.Body.{StandsForLog}
 use Rattle.world_logs.specs.Outcomes.{IsOutcome}
-use Rattle.world_logs_tests.proofs.tests.known_outcomes.Given as goal
+use Rattle.folder_tests.proofs.of_world_logs.outcomes_of.Given as goal
 
 -- there is what the logs so far came to
 abbrev pub invariant-loop-number : goal.invariant-loop-number
 invariant-loop-number g l = record {
   count : length l.outcomes.items ≡ l.number;
-  each : (s : ℕ) → s < l.number → IsOutcome l.schema (StandsIfKnown l.schema) s (slice_index_or l.outcomes.items s (Err 0));
+  each : (s : ℕ) → s < l.number → IsOutcome l.schema (StandsForLog l.schema) s (slice_index_or l.outcomes.items s (Err 0));
 }

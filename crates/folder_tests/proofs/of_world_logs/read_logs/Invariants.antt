@@ -2,7 +2,7 @@ use Rattle.std.proofs.Common.{ℕ}
 use Rattle.std.specs.List.{AllByRecursion}
 use Rattle.kept_records.specs.Text.{IsRecord}
 use Rattle.world_logs.specs.Logs.{records_of, log_of}
-use Rattle.world_logs_tests.proofs.tests.read_logs.Given as goal
+use Rattle.folder_tests.proofs.of_world_logs.read_logs.Given as goal
 
 -- the records of the logs so far lie in their ranges
 abbrev pub invariant-loop-text : goal.invariant-loop-text

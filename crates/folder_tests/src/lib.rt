@@ -1,0 +1,10 @@
+//! What no clause says, tried over the public calls of `site_folder`, `world_logs` and
+//! `trace_windows`: each has its module here.
+#![tactic(auto)]
+
+#[cfg(test)]
+mod of_site_folder;
+#[cfg(test)]
+mod of_trace_windows;
+#[cfg(test)]
+mod of_world_logs;
