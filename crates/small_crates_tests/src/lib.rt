@@ -5,6 +5,8 @@
 #[cfg(test)]
 mod of_escrow_journal;
 #[cfg(test)]
+mod of_escrow_work;
+#[cfg(test)]
 mod of_gift_ledger;
 #[cfg(test)]
 mod of_history;

@@ -1,5 +1,0 @@
-//! What no clause says, tried over the public calls of `escrow_work`.
-#![tactic(auto)]
-
-#[cfg(test)]
-mod tests;
