@@ -222,13 +222,17 @@ class CarrierTest(Sites):
         carriers[2].close()                             # of the others one is left to give
         self.sites[0].change("stock", -10)
         self.await_it(lambda: carriers[1].known("stock", Kind.LOWER) == {0: 0})
-        pid = self.sites[0].pid
+        pid, given = self.sites[0].pid, 0
         assert pid is not None
-        os.kill(pid, signal.SIGSTOP)
-        carriers[1].policy = Policy(quiet=0.3)
-        time.sleep(5)                                   # two or three looks, before site 0 is held for away
-        given = carriers[1].counts.evened
-        os.kill(pid, signal.SIGCONT)
+        for _ in range(3):                              # (on a busy machine a look comes late, and finds site 0 away)
+            os.kill(pid, signal.SIGSTOP)
+            carriers[1].policy = Policy(quiet=0.3)
+            time.sleep(5)                               # two or three looks, before site 0 is held for away
+            carriers[1].policy, given = CALM, carriers[1].counts.evened
+            os.kill(pid, signal.SIGCONT)
+            if given:
+                break
+            time.sleep(3)                               # site 0 tells anew that it has none
         self.assertEqual(given, 5)
         self.await_it(lambda: self.lower() == [5, 5, 10])
 
