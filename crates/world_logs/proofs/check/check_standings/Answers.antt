@@ -1,4 +1,4 @@
-use Rattle.std.proofs.Common.{refl}
+use Rattle.std.proofs.Common.{refl, rules}
 use Rattle.world_logs.proofs.Gathered.{gathered}
 use Rattle.world_logs.proofs.check.check_standings.Goals as goal
 
@@ -28,3 +28,15 @@ returns-in_ok-states_of-in-None-clause-count c =
       within = λ from to f k pair. c.in-None.ensures.none all.0 all.1 from to f k
           (record { pair = pair; from_known = refl; to_known = refl });
     })).count
+
+pub returns-in-Some-clause-count : goal.returns-in-Some-clause-count
+returns-in-Some-clause-count c = search rules
+
+pub returns-in-Some-clause-within : goal.returns-in-Some-clause-within
+returns-in-Some-clause-within c = search rules
+
+pub returns-in-Some-clause-states : goal.returns-in-Some-clause-states
+returns-in-Some-clause-states c = search rules
+
+pub returns-in-Some-clause-fault : goal.returns-in-Some-clause-fault
+returns-in-Some-clause-fault c = search rules

@@ -1,3 +1,4 @@
+use Rattle.std.proofs.Common.{rules}
 use Rattle.world_logs.proofs.Readings.{giver_place, taker_place}
 use Rattle.world_logs.proofs.excess_search.excess_at.Goals as goal
 
@@ -14,3 +15,9 @@ accepted-accepted-requires c =
       place = taker_place c.args.schema.now c.requires.of_logs.0 c.args.standings.now c.requires.of_logs.1 c.args.from.0 c.args.to.0
           c.args.field.0 c.from-2.result c.index-standings-from-2.result c.requires.pair c.from-2.ensures;
     }
+
+pub returns-then-accepted-given-clause-none : goal.returns-then-accepted-given-clause-none
+returns-then-accepted-given-clause-none c = search rules
+
+pub returns-clause-some : goal.returns-clause-some
+returns-clause-some c = search rules

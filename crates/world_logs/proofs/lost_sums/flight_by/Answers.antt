@@ -1,3 +1,4 @@
+use Rattle.std.proofs.lemmas.Grind.{common_steps}
 use Rattle.std.proofs.Common.{◌<◌, length, ◌∙◌, arith}
 use Rattle.world_logs.specs.Logs.{IsPair}
 use Rattle.world_logs.specs.Lost.{known_log, known_records}
@@ -48,3 +49,6 @@ accepted-accepted-requires c =
       place = taker_place c.args.schema.now (known_records c.requires.of_known.0) c.args.standings.now c.requires.of_known.1.stand
           c.args.from.0 c.args.to.0 c.args.field.0 c.from-2.result c.index-standings-from-2.result pair c.from-2.ensures;
     }
+
+pub returns : goal.returns
+returns c = grind (arith, common_steps)

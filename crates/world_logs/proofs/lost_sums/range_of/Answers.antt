@@ -1,4 +1,4 @@
-use Rattle.std.proofs.Common.{◌≡◌, ◌∙◌, ap, arith}
+use Rattle.std.proofs.Common.{◌≡◌, ◌∙◌, ap, arith, rules}
 use Rattle.std.specs.Prelude.{ℤ}
 use Rattle.std.proofs.lemmas.Int.{ints}
 use Rattle.world_logs.specs.declared.field_state.FieldRange.{FieldRange}
@@ -16,3 +16,6 @@ returns-clause-range c = λ known is.
     same_range _ (range_of c.args.schema.now known c.args.field.0)
     (omega (arith, ints, field, floor_is, ceiling_is, c.abs_diff-width.ensures, c.if-lower-width.false, c.rights_known-lower.ensures.value known is))
     (omega (arith, ints, field, floor_is, ceiling_is, c.abs_diff-width.ensures, c.if-raise-width.false, c.rights_known-raise.ensures.value known is))
+
+pub returns-clause-room : goal.returns-clause-room
+returns-clause-room c = search rules

@@ -1,4 +1,4 @@
-use Rattle.std.proofs.Common.{◌≡◌, ℕ, ◌++◌, ◌∷◌, [], List, length, map, sym, ap, ◌∙◌, arith, append_assoc}
+use Rattle.std.proofs.Common.{◌≡◌, ℕ, ◌++◌, ◌∷◌, [], List, length, map, sym, ap, ◌∙◌, arith, append_assoc, rules}
 use Rattle.std.specs.Prelude.{Result, Ok, Err}
 use Rattle.std.proofs.lemmas.List.{length-append, map_push}
 use Rattle.world_logs.proofs.outcomes.standings_or_fault.Goals as goal
@@ -48,3 +48,12 @@ returns-in-Err-clause-fault g c =
           ∙ ap (λ (one : Result g.row.T.Denot ℕ). one ∷ c.next.new.self.rest.items) c.in-Err.is);
       site = was.site;
     }
+
+pub drop-outcome-iterator-requires-in-Err : goal.drop-outcome-iterator-requires-in-Err
+drop-outcome-iterator-requires-in-Err g c κs = search rules
+
+pub drop-standings-requires-in-Err : goal.drop-standings-requires-in-Err
+drop-standings-requires-in-Err g c κs = search rules
+
+pub returns-in-Err-clause-standings : goal.returns-in-Err-clause-standings
+returns-in-Err-clause-standings g c = search rules
