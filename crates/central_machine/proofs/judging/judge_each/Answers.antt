@@ -1,4 +1,4 @@
-use Rattle.std.proofs.Common.{List, refl, sym, subst, ◌∙◌, arith}
+use Rattle.std.proofs.Common.{List, refl, sym, subst, ◌∙◌, arith, rules}
 use Rattle.field_bounds.specs.declared.entry.Entry.{Entry}
 use Rattle.central_rules.specs.Verdict.{verdict_back}
 use Rattle.central_machine.specs.Totals.{AreRunning}
@@ -61,3 +61,6 @@ returns-clause-count c =
     let was = c.loop-entry.invariant in
     (ends c.args.schema.now c.args.entries.now c.loop-entry.reader.entries.now was.same c.loop-entry.reader.read c.next.new.self.read
     c.next.result c.next.ensures.value c.next.ensures.read c.in_default.is was.within).1
+
+pub returns-in-Some-2-clause-count : goal.returns-in-Some-2-clause-count
+returns-in-Some-2-clause-count c = search rules

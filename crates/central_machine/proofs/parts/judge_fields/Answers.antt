@@ -1,3 +1,4 @@
+use Rattle.std.proofs.Common.{rules}
 use Rattle.central_rules.specs.declared.verdict.Verdict.{Verdict}
 use Rattle.central_rules.proofs.Exact.{legal_of, first_of, sound_of}
 use Rattle.central_machine.proofs.parts.judge_fields.Goals as goal
@@ -11,3 +12,6 @@ returns-clause-illegal g c = first_of (λ (v : Verdict). v) c.args.schema.now c.
 pub returns-clause-sound : goal.returns-clause-sound
 returns-clause-sound g c = λ sound.
     sound_of (λ (v : Verdict). v) c.args.schema.now c.args.entries.now c.judge_parts.result c.judge_parts.ensures.verdict c.sites-sites.ensures.limits sound
+
+pub returns-clause-verdict : goal.returns-clause-verdict
+returns-clause-verdict g c = search rules

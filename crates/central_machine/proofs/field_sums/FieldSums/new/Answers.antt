@@ -1,4 +1,4 @@
-use Rattle.std.proofs.Common.{arith, ◌∙◌, sym}
+use Rattle.std.proofs.Common.{arith, ◌∙◌, sym, rules}
 use Rattle.std.proofs.lemmas.Int.{ints}
 use Rattle.field_bounds.specs.declared.kind.Kind.TheVariants.{Lower}
 use Rattle.central_machine.proofs.Moves.{no_cuts}
@@ -16,3 +16,6 @@ returns c =
       aside = λ f k l. (c.in_ok-zeros.ensures f k (omega (arith, l))).1;
       cut = λ f k l. (c.in_ok-zeros-2.ensures f k (omega (arith, l))).1 ∙ sym (no_cuts schema f k);
     }
+
+pub from-fields-requires : goal.from-fields-requires
+from-fields-requires c = search rules

@@ -1,4 +1,4 @@
-use Rattle.std.proofs.Common.{sym, subst, ◌∙◌, arith}
+use Rattle.std.proofs.Common.{sym, subst, ◌∙◌, arith, rules}
 use Rattle.std.proofs.lemmas.List.{length_push, length-reverse}
 use Rattle.central_machine.specs.Totals.{AreRunning}
 use Rattle.central_machine.proofs.Fed.{back_more, stays_legal, first_bad}
@@ -23,3 +23,9 @@ pub returns-in-Ok-Some-clause-illegal : goal.returns-in-Ok-Some-clause-illegal
 returns-in-Ok-Some-clause-illegal c = λ entries rule was some.
     first_bad c.args.schema.now entries c.args.entry.now was.legal c.in-Ok-Some.field-0 (c.in-Ok-Some.ensures.rule _ was.totals) rule
     (c.in-Ok-Some.field-0-is ∙ some)
+
+pub returns-in-Err-clause-legal : goal.returns-in-Err-clause-legal
+returns-in-Err-clause-legal c = search rules
+
+pub returns-in-Err-clause-taken : goal.returns-in-Err-clause-taken
+returns-in-Err-clause-taken c = search rules

@@ -1,4 +1,4 @@
-use Rattle.std.proofs.Common.{◌≡◌, Bool, true, false, cond, List, [], ◌∷◌, ◌++◌, sym, ◌∙◌, ltb, Some, None}
+use Rattle.std.proofs.Common.{◌≡◌, Bool, true, false, cond, List, [], ◌∷◌, ◌++◌, sym, ◌∙◌, ltb, Some, None, rules}
 use Rattle.central_rules.specs.declared.verdict.Rule.{Rule}
 use Rattle.central_rules.specs.declared.verdict.Rule.TheVariants.{Reply as Owed}
 use Rattle.central_rules.specs.Verdict.{first_broken, test_of}
@@ -26,3 +26,6 @@ returns-in-Some c = λ t are.
     let e = c.args.entry.now in
     more_at (ltb e.site.0 schema.sites) (field_tests schema t e) (test_of schema t e Owed, Owed) c.in-Some.rule
     (sym (c.field_broken.ensures t are) ∙ c.in-Some.is)
+
+pub returns-then-not-reply_holds : goal.returns-then-not-reply_holds
+returns-then-not-reply_holds c = search rules
