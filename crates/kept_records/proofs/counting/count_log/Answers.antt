@@ -1,4 +1,4 @@
-use Rattle.std.proofs.Common.{◌≡◌, ◌-◌, ◌+◌, ℕ, List, length, Option, Some, refl, sym, ap, subst, ◌∙◌, arith}
+use Rattle.std.proofs.Common.{◌≡◌, ◌-◌, ◌+◌, ℕ, List, length, Option, Some, refl, sym, ap, subst, ◌∙◌, arith, rules}
 use Rattle.std.specs.List.{flat_map}
 use Rattle.kept_records.specs.Text.{text}
 use Rattle.kept_records.specs.Logs.{AreGoodRecords}
@@ -71,3 +71,9 @@ returns c =
             };
           }
     ]
+
+pub overflow_add-bad_line : goal.overflow_add-bad_line
+overflow_add-bad_line c = search rules
+
+pub overflow_add-bad_line-in-NoRecord : goal.overflow_add-bad_line-in-NoRecord
+overflow_add-bad_line-in-NoRecord c = search rules

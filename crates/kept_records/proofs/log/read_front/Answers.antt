@@ -1,4 +1,5 @@
-use Rattle.std.proofs.Common.{◌≡◌, ◌-◌, ◌+◌, ℕ, length, Option, Some, sym, ap, subst, ◌∙◌, arith}
+use Rattle.std.proofs.lemmas.Grind.{common_steps}
+use Rattle.std.proofs.Common.{◌≡◌, ◌-◌, ◌+◌, ℕ, length, Option, Some, sym, ap, subst, ◌∙◌, arith, rules}
 use Rattle.kept_records.specs.Logs.{AreGoodRecords}
 use Rattle.kept_records.proofs.Walks.{bad_at_line, end_at_line, begins_size, ends_there, bad_there}
 use Rattle.kept_records.proofs.log.read_front.Goals as goal
@@ -23,3 +24,9 @@ returns-clause-front c =
           (ends_there bytes records left size so_far none.0
           (omega (arith, c.left.ensures.value, ap length none.1, begins_size bytes records left so_far)))
     ]
+
+pub lines-preserved-in-Some : goal.lines-preserved-in-Some
+lines-preserved-in-Some c = grind (arith, common_steps)
+
+pub overflow_add-bad_line : goal.overflow_add-bad_line
+overflow_add-bad_line c = search rules

@@ -35,3 +35,9 @@ loop-first-preserved c =
 pub returns : goal.returns
 returns c = ends_all c.loop-first.escrows.items c.loop-first.words _ c.loop-first.invariant c.in_default.ensures.first
     ∙ ap (λ (l : List Escrow). Some l) (sym c.new-read.ensures.all)
+
+pub clear-requires : goal.clear-requires
+clear-requires c κs = search rules
+
+pub loop-first-init : goal.loop-first-init
+loop-first-init c = search rules

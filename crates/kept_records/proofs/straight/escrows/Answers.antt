@@ -1,4 +1,4 @@
-use Rattle.std.proofs.Common.{◌≡◌, ◌∷◌, [], ◌++◌, List, sym, ap, subst, ◌∙◌}
+use Rattle.std.proofs.Common.{◌≡◌, ◌∷◌, [], ◌++◌, List, sym, ap, subst, ◌∙◌, rules}
 use Rattle.std.specs.List.{AllByRecursion}
 use Rattle.field_bounds.specs.declared.entry.Escrow.{Escrow}
 use Rattle.kept_records.specs.Text.{IsEscrow, escrow_words, words_spaced}
@@ -15,3 +15,9 @@ loop-escrow-preserved c =
           ∙ ap (λ (l : List Escrow). words_spaced (escrow_words l) ++ c.in-Some.more.now) (sym more);
       ranges = subst (AllByRecursion IsEscrow) (sym more) (escrows_push es e c.loop-escrow.invariant.ranges c.in-Some.ensures.range);
     }
+
+pub clear-requires : goal.clear-requires
+clear-requires c κs = search rules
+
+pub loop-escrow-init : goal.loop-escrow-init
+loop-escrow-init c = search rules

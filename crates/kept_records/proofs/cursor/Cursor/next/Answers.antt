@@ -1,4 +1,4 @@
-use Rattle.std.proofs.Common.{[], Option, Result, sym, subst}
+use Rattle.std.proofs.Common.{[], Option, Result, sym, subst, rules}
 use Rattle.std.specs.declared.alloc.AllocError.{AllocError}
 use Rattle.std.specs.Prelude.{IfOk}
 use Rattle.kept_records.specs.declared.record.Record.{Record}
@@ -33,3 +33,12 @@ unreachable-requires c =
     let kept = subst IsKept (sym c.self.view_is) c.requires.log in
     let bad = subst (λ (l : RecordLine). HandsLine old l c.next_line.new.self.left) c.in-NoRecord.is c.in_ok-kept.ensures.handed in
     no_log old 1 (bad_there old [] old 0 (begins_none old) bad.0).0 kept.0 kept.1 kept.2
+
+pub returns-clause-handed : goal.returns-clause-handed
+returns-clause-handed c = search rules
+
+pub returns-clause-shorter : goal.returns-clause-shorter
+returns-clause-shorter c = search rules
+
+pub returns-clause-stays : goal.returns-clause-stays
+returns-clause-stays c = search rules

@@ -1,4 +1,4 @@
-use Rattle.std.proofs.Common.{◌≡◌, ◌+◌, ◌-◌, ◌++◌, ℕ, List, length, take, drop, Some, None, refl, sym, ap, subst, ◌∙◌}
+use Rattle.std.proofs.Common.{◌≡◌, ◌+◌, ◌-◌, ◌++◌, ℕ, List, length, take, drop, Some, None, refl, sym, ap, subst, ◌∙◌, rules}
 use Rattle.std.proofs.lemmas.List.{take_rest}
 use Rattle.line_words.specs.Words.{words}
 use Rattle.kept_records.specs.declared.record.Record.{Record}
@@ -46,3 +46,9 @@ returns-in-Err-NoRecord-clause-handed c =
     let none : record_of (words (take end left)) ≡ None = rw c.in-Err-NoRecord.field-0-is at c.in-Err-NoRecord.ensures in
     let bad = starts_bad left end (found 10 left end (sym c.in-Some.ensures)) none in
     (subst StartsBad (ap (λ (v : LentValue). v.left) c.self.view_is) bad, (ap (λ (v : LentValue). v.left) c.self.view_is))
+
+pub returns-in-Ok-clause-within : goal.returns-in-Ok-clause-within
+returns-in-Ok-clause-within c = search rules
+
+pub returns-in-Ok-clause-stays : goal.returns-in-Ok-clause-stays
+returns-in-Ok-clause-stays c = search rules
