@@ -9,7 +9,7 @@ use Rattle.script_input.specs.Streams.{AppendsPrefix}
 use Rattle.script_input.proofs.LineLemmas.{whole_lines_after-append, last_part_after-append}
 use Rattle.site_service.specs.declared.fault.ServeFault.{ServeFault}
 use Rattle.site_service.specs.declared.fault.ServeFault.TheVariants as faults
-use Rattle.site_service.specs.Answers.{AnswersLines}
+use Rattle.site_service.specs.Answers.{held_in, AnswersLines}
 use Rattle.site_service.specs.Service.{ServiceValue, HoldsText, IsSettled, KeepsLog, HasAnsweredAll, LetsOut, HoldsBack}
 use Rattle.site_service.specs.Serving.{IsKeptOf, Serves, ServesPart, Stops, StopsAtOnce, IsOutAt, IsLongAt, reads_failed, CountsReads, CountsWrites}
 use Rattle.site_service.specs.Traces.{TraceValue, HasTold, HasKept}
@@ -75,7 +75,7 @@ stops_behind from mid to before after trace half traced start now later line pie
       text = s.text;
       answers = s.answers;
       out = out;
-      safe = subst (λ (k : Option (List ℕ)). HoldsText k now.served.last now.served.site.bytes) (sym same) (settled_text now s.settled);
+      safe = subst (λ (k : Option (List ℕ)). HoldsText k now.served.last (held_in now.served)) (sym same) (settled_text now s.settled);
       told = told;
       long = long;
     }

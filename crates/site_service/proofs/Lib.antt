@@ -1,5 +1,6 @@
 pub mod Stops
 pub mod Whole
+pub mod Held
 pub mod Unkeyed
 pub mod KeyedTexts
 pub mod Notes
@@ -7,6 +8,12 @@ pub mod Ends
 pub mod Index
 pub mod Rising
 pub mod Links
+pub mod Forgets
+pub mod PastCommits
+pub mod HeldKeys
+pub mod Spares
+pub mod ToldMore
+pub mod Shortens
 pub mod Starts
 pub mod Questions
 pub mod LastWords

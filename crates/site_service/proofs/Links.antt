@@ -9,23 +9,28 @@ use Rattle.field_bounds.specs.declared.entry.Command.TheVariants.{Restart}
 use Rattle.kept_records.specs.declared.medium.MediumFault.{MediumFault}
 use Rattle.kept_records.specs.declared.medium.MediumFault.TheVariants as medium_faults
 use Rattle.site_step.specs.Site.{SiteValue, Opens}
+use Rattle.site_service.specs.Answers.{held_of}
+use Rattle.log_head.specs.declared.gone.Gone.{Gone}
 use Rattle.site_step.specs.Opening.{TellsLine, SparesLogs, fault_of}
 use Rattle.site_step.specs.declared.site.opening.OpenFault.{OpenFault}
 use Rattle.site_step.specs.declared.site.opening.OpenFault.TheVariants.{Device, Line, NoMemory}
 use Rattle.file_medium.specs.Copies.{IsCopyOf}
 use Rattle.std.specs.List.{flat_map}
+use Rattle.kept_records.specs.declared.record.Record.{Record}
 use Rattle.kept_records.specs.Logs.{IsLog}
 use Rattle.caller_keys.specs.Keys.{KeyNote, note_line, IsKeyed, AreLines, last_txn}
 use Rattle.site_service.specs.declared.kept.KeptCommits.{KeptCommits}
 use Rattle.site_service.specs.Kept.{LastNotes, last_of}
-use Rattle.site_service.specs.Index.{IsIndexOf, AreNoteLines, IsBehind, IsFollowed, IsSoundService}
+use Rattle.site_service.specs.LetGo.{LetGo, IsTold, let_go_of, nothing_gone}
+use Rattle.site_service.specs.Index.{IsIndexOf, AreNoteLines, IsBehind, IsFollowed, GoesOn, IsSoundService}
 use Rattle.site_service.proofs.KeyedTexts.{keyed_more, lines_more, some_line}
-use Rattle.site_service.specs.Answers.{Served, served_of, Answered}
+use Rattle.site_service.proofs.Held.{held_log, held_goes, tells_whole}
+use Rattle.site_service.specs.Answers.{Served, served_of, whole_of, held_in, Answered}
 use Rattle.site_service.specs.Opening.{HoldsRecords, IsSafe, IsStarted, IsOpened, TellsBadLine}
 use Rattle.script_input.specs.Streams.{AppendsPrefix, one_more}
 use Rattle.site_service.specs.declared.fault.ServeFault.{ServeFault}
 use Rattle.site_service.specs.declared.fault.ServeFault.TheVariants as faults
-use Rattle.site_service.specs.Service.{ServiceValue, value_of, IsWhole, Grows, HoldsText, AddsNotesFirst, IsSettled, KeepsLog, Tells, TellsEntry, HasApplied, HasAnswered, LetsOut, HoldsBack}
+use Rattle.site_service.specs.Service.{ServiceValue, value_of, StandsOnHeld, HoldsText, AddsNotesFirst, IsSettled, KeepsLog, Tells, TellsEntry, HasApplied, HasAnswered, LetsOut, HoldsBack}
 
 pub copy_more : (known : Option (List ℕ)) (held more : List ℕ) → IsCopyOf known held → IsCopyOf (append_known known more) (held ++ more)
 copy_more None held more is = is
@@ -35,26 +40,28 @@ all_of : (bytes : List ℕ) → take (length bytes) bytes ≡ bytes
 all_of bytes = take_all (length bytes) bytes (omega arith)
 
 -- the text of a settled log
-pub settled_text : (v : ServiceValue) → IsSettled v → HoldsText v.safe v.served.last v.served.site.bytes
+pub settled_text : (v : ServiceValue) → IsSettled v → HoldsText v.safe v.served.last (held_in v.served)
 settled_text v settled = record { text = settled.text; copy = settled.safe; is = settled.is }
 
-module _ (schema : SchemaValue) (site : SiteValue) (last : LastNotes) (lines : ℕ) (waiting : List ℕ) (log safe : Option (List ℕ))
+module _ (schema : SchemaValue) (site : SiteValue) (last : LastNotes) (told : Option Gone) (lines : ℕ) (waiting : List ℕ) (log safe : Option (List ℕ))
     (least : Option ℕ) (settled : ℕ) (lost : Bool) (kept : KeptCommits) (unlogged : List ℕ)
-    (sound : IsSoundService schema (value_of site last lines waiting log safe least settled lost) kept unlogged) where
+    (sound : IsSoundService schema site (value_of site last told lines waiting log safe least settled lost) kept unlogged) where
   -- the site goes on, and lines are answered
-  pub sound_grows : (later : SiteValue) (now : LastNotes) (more : ℕ) (text : List ℕ) (set : KeptCommits) (new : List ℕ) → Grows site later
-      → IsIndexOf set later.bytes → ((notes : List KeyNote) → IsBehind notes unlogged last → IsBehind notes new now)
-      → IsSoundService schema (value_of later now more text log safe least settled lost) set new
+  pub sound_grows : (later : SiteValue) (now : LastNotes) (more : ℕ) (text : List ℕ) (set : KeptCommits) (new : List ℕ) → GoesOn site later
+      → IsIndexOf set (held_of later) → ((notes : List KeyNote) → IsBehind notes unlogged last → IsBehind notes new now)
+      → IsSoundService schema later (value_of later now told more text log safe least settled lost) set new
   sound_grows later now more text set new grows index noting =
       let link = sound.linked in
       let behind = noting link.notes (record { more = link.more; lines = sound.noting; tells = link.tells }) in
-      let front : take settled later.bytes ≡ take settled site.bytes =
-      ap (take settled) grows.bytes ∙ take-append-le settled site.bytes grows.added link.within in
+      let grown = held_goes site later link.stands grows in
+      let front : take settled (held_of later) ≡ take settled (held_of site) =
+      ap (take settled) grown ∙ take-append-le settled (held_of site) grows.added link.within in
       record {
         linked = record {
           own = link.own ∙ sym grows.schema;
-          whole = grows.whole;
-          within = omega (arith, link.within, ap length grows.bytes, length-append site.bytes grows.added);
+          stands = grows.stands;
+          let_go = subst (λ (rs : List Record). IsTold (let_go_of rs told)) (sym grows.gone) link.let_go;
+          within = omega (arith, link.within, ap length grown, length-append (held_of site) grows.added);
           text = link.text;
           lines = link.lines;
           notes = link.notes;
@@ -69,13 +76,14 @@ module _ (schema : SchemaValue) (site : SiteValue) (last : LastNotes) (lines : �
       }
 
   -- what waits is another text
-  pub sound_waits : (text : List ℕ) → IsSoundService schema (value_of site last lines text log safe least settled lost) kept unlogged
+  pub sound_waits : (text : List ℕ) → IsSoundService schema site (value_of site last told lines text log safe least settled lost) kept unlogged
   sound_waits text =
       let link = sound.linked in
       record {
         linked = record {
           own = link.own;
-          whole = link.whole;
+          stands = link.stands;
+          let_go = link.let_go;
           within = link.within;
           text = link.text;
           lines = link.lines;
@@ -91,19 +99,20 @@ module _ (schema : SchemaValue) (site : SiteValue) (last : LastNotes) (lines : �
       }
 
   -- more of the medium was looked at
-  pub sound_looked : (set : KeptCommits) → IsIndexOf set site.bytes
-      → IsSoundService schema (value_of site last lines waiting log safe least settled lost) set unlogged
+  pub sound_looked : (set : KeptCommits) → IsIndexOf set (held_of site)
+      → IsSoundService schema site (value_of site last told lines waiting log safe least settled lost) set unlogged
   sound_looked set index = record { linked = sound.linked; index = index; noting = sound.noting }
 
   -- a call of the file has failed
-  pub sound_lost : (fewest : Option ℕ) (other now : Option (List ℕ)) → now ≡ safe
-      → IsSoundService schema (value_of site last lines waiting other now fewest settled true) kept unlogged
-  sound_lost fewest other now same =
+  pub sound_lost : (fewest : Option ℕ) (other now : Option (List ℕ))
+      → IsSoundService schema site (value_of site last told lines waiting other now fewest settled true) kept unlogged
+  sound_lost fewest other now =
       let link = sound.linked in
       record {
         linked = record {
           own = link.own;
-          whole = link.whole;
+          stands = link.stands;
+          let_go = link.let_go;
           within = link.within;
           text = link.text;
           lines = link.lines;
@@ -111,7 +120,7 @@ module _ (schema : SchemaValue) (site : SiteValue) (last : LastNotes) (lines : �
           keyed = link.keyed;
           more = link.more;
           tells = link.tells;
-          safe = subst (λ (k : Option (List ℕ)). IsCopyOf k link.text) (sym same) link.safe;
+          safe = λ h. cc;
           log = λ h. cc;
         };
         index = sound.index;
@@ -120,40 +129,41 @@ module _ (schema : SchemaValue) (site : SiteValue) (last : LastNotes) (lines : �
 
   -- the text that the log holds once it has got the lines of notes, and the rest of what the medium holds
   abbrev grown_text : List ℕ
-  grown_text = (sound.linked.text ++ unlogged) ++ drop settled site.bytes
+  grown_text = (sound.linked.text ++ unlogged) ++ drop settled (held_of site)
 
-  site_log : IsLog site.bytes sound.linked.whole.log.all []
-  site_log = sound.linked.whole.log.log
+  site_log : IsLog (held_of site) sound.linked.stands.held []
+  site_log = held_log site sound.linked.stands
 
-  grown_keyed : IsKeyed grown_text (sound.linked.notes ++ sound.linked.more) site.bytes
+  grown_keyed : IsKeyed grown_text (sound.linked.notes ++ sound.linked.more) (held_of site)
   grown_keyed =
       let link = sound.linked in
-      subst (λ (l : List ℕ). IsKeyed ((link.text ++ l) ++ drop settled site.bytes) (link.notes ++ link.more) site.bytes) (sym sound.noting.lines)
-      (keyed_more link.text link.notes link.more settled site.bytes link.whole.log.all link.lines link.keyed sound.noting.each site_log)
+      subst (λ (l : List ℕ). IsKeyed ((link.text ++ l) ++ drop settled (held_of site)) (link.notes ++ link.more) (held_of site)) (sym sound.noting.lines)
+      (keyed_more link.text link.notes link.more settled (held_of site) link.stands.held link.lines link.keyed sound.noting.each site_log)
 
   grown_lines : AreLines grown_text
   grown_lines =
       let link = sound.linked in
-      subst (λ (l : List ℕ). AreLines ((link.text ++ l) ++ drop settled site.bytes)) (sym sound.noting.lines)
-      (lines_more link.text link.more settled site.bytes link.whole.log.all link.lines site_log)
+      subst (λ (l : List ℕ). AreLines ((link.text ++ l) ++ drop settled (held_of site))) (sym sound.noting.lines)
+      (lines_more link.text link.more settled (held_of site) link.stands.held link.lines site_log)
 
-  grown_copy : lost ≡ false → IsCopyOf (append_known (append_known log unlogged) (drop settled site.bytes)) grown_text
+  grown_copy : lost ≡ false → IsCopyOf (append_known (append_known log unlogged) (drop settled (held_of site))) grown_text
   grown_copy fine =
-      copy_more (append_known log unlogged) (sound.linked.text ++ unlogged) (drop settled site.bytes)
+      copy_more (append_known log unlogged) (sound.linked.text ++ unlogged) (drop settled (held_of site))
       (copy_more log sound.linked.text unlogged (sound.linked.log fine))
 
   -- the log has got all
   pub sound_follows : (later : LastNotes) (fewest : Option ℕ) (grown now : Option (List ℕ)) (all : ℕ) (none : List ℕ) → later ≡ last
-      → lost ≡ false → grown ≡ append_known (append_known log unlogged) (drop settled site.bytes) → now ≡ grown → all ≡ length site.bytes
-      → none ≡ [] → IsSoundService schema (value_of site later lines waiting grown now fewest all lost) kept none
+      → lost ≡ false → grown ≡ append_known (append_known log unlogged) (drop settled (held_of site)) → now ≡ grown → all ≡ length (held_of site)
+      → none ≡ [] → IsSoundService schema site (value_of site later told lines waiting grown now fewest all lost) kept none
   sound_follows later fewest grown now all none same fine is kept_all size empty =
       let link = sound.linked in
       let copy : IsCopyOf grown grown_text = subst (λ (k : Option (List ℕ)). IsCopyOf k grown_text) (sym is) (grown_copy fine) in
-      let taken : take all site.bytes ≡ site.bytes = ap (λ n. take n site.bytes) size ∙ all_of site.bytes in
+      let taken : take all (held_of site) ≡ (held_of site) = ap (λ n. take n (held_of site)) size ∙ all_of (held_of site) in
       record {
         linked = record {
           own = link.own;
-          whole = link.whole;
+          stands = link.stands;
+          let_go = link.let_go;
           within = omega (arith, size);
           text = grown_text;
           lines = grown_lines;
@@ -162,7 +172,7 @@ module _ (schema : SchemaValue) (site : SiteValue) (last : LastNotes) (lines : �
           more = [];
           tells = λ key. ap (λ (f : LastNotes). last_of f key) same ∙ link.tells key
               ∙ ap (last_txn key) (sym (append-nil (link.notes ++ link.more)));
-          safe = subst (λ (k : Option (List ℕ)). IsCopyOf k grown_text) (sym kept_all) copy;
+          safe = λ h. subst (λ (k : Option (List ℕ)). IsCopyOf k grown_text) (sym kept_all) copy;
           log = λ h. copy;
         };
         index = sound.index;
@@ -170,8 +180,8 @@ module _ (schema : SchemaValue) (site : SiteValue) (last : LastNotes) (lines : �
       }
 
   pub settled_follows : (later : LastNotes) (fewest : Option ℕ) (grown now : Option (List ℕ)) (all : ℕ) → later ≡ last → lost ≡ false
-      → grown ≡ append_known (append_known log unlogged) (drop settled site.bytes) → now ≡ grown
-      → IsSettled (value_of site later lines waiting grown now fewest all lost)
+      → grown ≡ append_known (append_known log unlogged) (drop settled (held_of site)) → now ≡ grown
+      → IsSettled (value_of site later told lines waiting grown now fewest all lost)
   settled_follows later fewest grown now all same fine is kept_all =
       let copy : IsCopyOf grown grown_text = subst (λ (k : Option (List ℕ)). IsCopyOf k grown_text) (sym is) (grown_copy fine) in
       record {
@@ -187,15 +197,15 @@ module _ (schema : SchemaValue) (site : SiteValue) (last : LastNotes) (lines : �
       }
 
   -- notes first
-  pub adds_first : (grown : Option (List ℕ)) → grown ≡ append_known (append_known log unlogged) (drop settled site.bytes) → (text : List ℕ)
-      → IsCopyOf log text → AddsNotesFirst grown text settled site.bytes
+  pub adds_first : (grown : Option (List ℕ)) → grown ≡ append_known (append_known log unlogged) (drop settled (held_of site)) → (text : List ℕ)
+      → IsCopyOf log text → AddsNotesFirst grown text settled (held_of site)
   adds_first grown is text copy = record {
     notes = sound.linked.more;
     each = sound.noting.each;
-    copy = subst (λ (k : Option (List ℕ)). IsCopyOf k ((text ++ flat_map note_line sound.linked.more) ++ drop settled site.bytes)) (sym is)
-        (subst (λ (l : List ℕ). IsCopyOf (append_known (append_known log unlogged) (drop settled site.bytes)) ((text ++ l) ++ drop settled site.bytes))
+    copy = subst (λ (k : Option (List ℕ)). IsCopyOf k ((text ++ flat_map note_line sound.linked.more) ++ drop settled (held_of site))) (sym is)
+        (subst (λ (l : List ℕ). IsCopyOf (append_known (append_known log unlogged) (drop settled (held_of site))) ((text ++ l) ++ drop settled (held_of site)))
         sound.noting.lines
-        (copy_more (append_known log unlogged) (text ++ unlogged) (drop settled site.bytes) (copy_more log text unlogged copy)));
+        (copy_more (append_known log unlogged) (text ++ unlogged) (drop settled (held_of site)) (copy_more log text unlogged copy)));
   }
 
   none_more : (more : List KeyNote) → AreNoteLines unlogged more → unlogged ≡ [] → more ≡ []
@@ -204,11 +214,11 @@ module _ (schema : SchemaValue) (site : SiteValue) (last : LastNotes) (lines : �
       absurd (some_line n (flat_map note_line ns) (sym noting.lines ∙ none))
 
   -- all is settled
-  pub settled_all : lost ≡ false → settled ≡ length site.bytes → unlogged ≡ []
-      → IsSettled (value_of site last lines waiting log safe least settled lost)
+  pub settled_all : lost ≡ false → settled ≡ length (held_of site) → unlogged ≡ []
+      → IsSettled (value_of site last told lines waiting log safe least settled lost)
   settled_all fine all none =
       let link = sound.linked in
-      let whole : take settled site.bytes ≡ site.bytes = ap (λ n. take n site.bytes) all ∙ all_of site.bytes in
+      let whole : take settled (held_of site) ≡ (held_of site) = ap (λ n. take n (held_of site)) all ∙ all_of (held_of site) in
       let nothing : link.notes ++ link.more ≡ link.notes =
       ap (λ (ns : List KeyNote). link.notes ++ ns) (none_more link.more sound.noting none) ∙ append-nil link.notes in
       record {
@@ -220,14 +230,14 @@ module _ (schema : SchemaValue) (site : SiteValue) (last : LastNotes) (lines : �
           tells = λ key. link.tells key ∙ ap (last_txn key) nothing;
         };
         log = link.log fine;
-        safe = link.safe;
+        safe = link.safe fine;
       }
 
 -- nothing is added
-pub adds_nothing : (v : ServiceValue) (text : List ℕ) → v.settled ≡ length v.served.site.bytes → IsCopyOf v.log text
-    → AddsNotesFirst v.log text v.settled v.served.site.bytes
+pub adds_nothing : (v : ServiceValue) (text : List ℕ) → v.settled ≡ length (held_in v.served) → IsCopyOf v.log text
+    → AddsNotesFirst v.log text v.settled (held_in v.served)
 adds_nothing v text all copy =
-    let none : drop v.settled v.served.site.bytes ≡ [] = drop_all v.settled v.served.site.bytes (omega (arith, all)) in
+    let none : drop v.settled (held_in v.served) ≡ [] = drop_all v.settled (held_in v.served) (omega (arith, all)) in
     record {
       notes = [];
       each = tt;
@@ -250,16 +260,18 @@ copy_safe (Some xs) text copy = ([], copy ∙ sym (append-nil text))
 -- ---- a log that was read
 
 -- a new service over what was read
-pub sound_opened : (schema : SchemaValue) (site : SiteValue) (last : LastNotes) (lines : ℕ) (waiting : List ℕ) (log safe : Option (List ℕ))
-    (least : Option ℕ) (settled : ℕ) (kept : KeptCommits) (unlogged : List ℕ) → site.schema ≡ schema → IsWhole site
-    → settled ≡ length site.bytes → IsFollowed log safe last site.bytes → IsIndexOf kept site.bytes → unlogged ≡ []
-    → IsSoundService schema (value_of site last lines waiting log safe least settled false) kept unlogged
-sound_opened schema site last lines waiting log safe least settled kept unlogged own whole size follows index none =
-    let all : take settled site.bytes ≡ site.bytes = ap (λ n. take n site.bytes) size ∙ all_of site.bytes in
+pub sound_opened : (schema : SchemaValue) (site : SiteValue) (last : LastNotes) (told : Option Gone) (lines : ℕ) (waiting : List ℕ)
+    (log safe : Option (List ℕ)) (least : Option ℕ) (settled : ℕ) (kept : KeptCommits) (unlogged : List ℕ) → site.schema ≡ schema
+    → StandsOnHeld site → IsTold (let_go_of site.gone told) → settled ≡ length (held_of site) → IsFollowed log safe last (held_of site)
+    → IsIndexOf kept (held_of site) → unlogged ≡ []
+    → IsSoundService schema site (value_of site last told lines waiting log safe least settled false) kept unlogged
+sound_opened schema site last told lines waiting log safe least settled kept unlogged own stands let_go size follows index none =
+    let all : take settled (held_of site) ≡ held_of site = ap (λ n. take n (held_of site)) size ∙ all_of (held_of site) in
     record {
       linked = record {
         own = sym own;
-        whole = whole;
+        stands = stands;
+        let_go = let_go;
         within = omega (arith, size);
         text = follows.text;
         lines = follows.lines;
@@ -267,7 +279,7 @@ sound_opened schema site last lines waiting log safe least settled kept unlogged
         keyed = subst (IsKeyed follows.text follows.is.notes) (sym all) follows.is.keyed;
         more = [];
         tells = λ key. follows.is.tells key ∙ ap (last_txn key) (sym (append-nil follows.is.notes));
-        safe = follows.safe;
+        safe = λ h. follows.safe;
         log = λ h. follows.log;
       };
       index = index;
@@ -299,30 +311,30 @@ pub on_write : {T : Type 0} (r : Result T ServeFault) (P : Type 0) (Q : ServeFau
 on_write (Ok x) P Q f is p = tt
 on_write (Err fault) P Q f is p = subst Q (sym is) (f p)
 
-module _ (site : SiteValue) (last : LastNotes) (lines : ℕ) (waiting : List ℕ) (log safe : Option (List ℕ)) (least : Option ℕ) (settled : ℕ)
-    (lost : Bool) (old v : ServiceValue) (is : value_of site last lines waiting log safe least settled lost ≡ v) (same : v.waiting ≡ old.waiting) (has : IsSettled v) (left : List ℕ)
+module _ (site : SiteValue) (last : LastNotes) (told : Option Gone) (lines : ℕ) (waiting : List ℕ) (log safe : Option (List ℕ))
+    (least : Option ℕ) (settled : ℕ) (lost : Bool) (old v : ServiceValue) (is : value_of site last told lines waiting log safe least settled lost ≡ v) (same : v.waiting ≡ old.waiting) (has : IsSettled v) (left : List ℕ)
     (none : left ≡ []) where
   texts_same : waiting ≡ old.waiting
   texts_same = ap (λ (s : ServiceValue). s.waiting) is ∙ same
 
-  still_settled : IsSettled (value_of site last lines left log safe least settled lost)
+  still_settled : IsSettled (value_of site last told lines left log safe least settled lost)
   still_settled = let here = subst IsSettled (sym is) has in
       record { sound = here.sound; text = here.text; is = here.is; log = here.log; safe = here.safe }
 
   pub lets_out : (before after : Option (List ℕ)) → Appends before after waiting
-      → LetsOut before after old (value_of site last lines left log safe least settled lost)
+      → LetsOut before after old (value_of site last told lines left log safe least settled lost)
   lets_out before after out = record { settled = still_settled; out = subst (Appends before after) texts_same out; waiting = none }
 
   pub holds_back : (before after : Option (List ℕ)) → AppendsPrefix before after waiting
-      → HoldsBack before after old (value_of site last lines left log safe least settled lost) faults.Write
+      → HoldsBack before after old (value_of site last told lines left log safe least settled lost) faults.Write
   holds_back before after front = (still_settled, subst (AppendsPrefix before after) texts_same front, none)
 
 -- ---- what the calls leave, by the fields
 
-module _ (site : SiteValue) (last : LastNotes) (lines : ℕ) (waiting : List ℕ) (log safe : Option (List ℕ)) (least : Option ℕ) (settled : ℕ)
-    (lost : Bool) (v : ServiceValue) (is : value_of site last lines waiting log safe least settled lost ≡ v) where
+module _ (site : SiteValue) (last : LastNotes) (told : Option Gone) (lines : ℕ) (waiting : List ℕ) (log safe : Option (List ℕ))
+    (least : Option ℕ) (settled : ℕ) (lost : Bool) (v : ServiceValue) (is : value_of site last told lines waiting log safe least settled lost ≡ v) where
   pub log_kept : (later : SiteValue) (now : LastNotes) (more : ℕ) (text : List ℕ)
-      → KeepsLog v (value_of later now more text log safe least settled lost)
+      → KeepsLog v (value_of later now told more text log safe least settled lost)
   log_kept later now more text = record {
     log = ap (λ (s : ServiceValue). s.log) is;
     safe = ap (λ (s : ServiceValue). s.safe) is;
@@ -334,17 +346,27 @@ module _ (site : SiteValue) (last : LastNotes) (lines : ℕ) (waiting : List ℕ
   pub waits_same : (text : List ℕ) → text ≡ waiting → text ≡ v.waiting
   waits_same text same = same ∙ ap (λ (s : ServiceValue). s.waiting) is
 
-  pub has_applied : (command : Command) (later : SiteValue) (text : List ℕ) → TellsEntry command site later waiting text
-      → HasApplied command v (value_of later last lines text log safe least settled lost)
-  has_applied command later text tells =
-      subst (λ (old : ServiceValue). HasApplied command old (value_of later last lines text log safe least settled lost)) is
-      (record { tells = tells; last = refl; lines = refl })
+  pub has_applied : (command : Command) (later : SiteValue) (text : List ℕ) → later.gone ≡ site.gone
+      → TellsEntry command site later waiting text → HasApplied command v (value_of later last told lines text log safe least settled lost)
+  has_applied command later text gone tells =
+      subst (λ (old : ServiceValue). HasApplied command old (value_of later last told lines text log safe least settled lost)) is
+      (record {
+        tells = tells_whole site later command waiting text tells;
+        last = refl;
+        let_go = ap (λ (rs : List Record). let_go_of rs told) gone;
+        lines = refl;
+      })
+
+  pub let_go_kept : (later : SiteValue) (now : LastNotes) (more : ℕ) → later.gone ≡ site.gone
+      → (served_of later now told more).let_go ≡ v.served.let_go
+  let_go_kept later now more gone =
+      ap (λ (rs : List Record). let_go_of rs told) gone ∙ ap (λ (s : ServiceValue). s.served.let_go) is
 
   pub has_answered : (line : List ℕ) (later : SiteValue) (now : LastNotes) (number : ℕ) (text : List ℕ) → number ≡ one_more lines
-      → Tells line (served_of site last lines) (served_of later now number) waiting text
-      → HasAnswered line v (value_of later now number text log safe least settled lost)
+      → Tells line (served_of site last told lines) (served_of later now told number) waiting text
+      → HasAnswered line v (value_of later now told number text log safe least settled lost)
   has_answered line later now number text counted tells =
-      subst (λ (old : ServiceValue). HasAnswered line old (value_of later now number text log safe least settled lost)) is
+      subst (λ (old : ServiceValue). HasAnswered line old (value_of later now told number text log safe least settled lost)) is
       (record { text = tells.text; answer = record { counted = counted; answer = tells.answer }; added = tells.added })
 
 -- what a restarted site leaves, once that is settled
@@ -357,19 +379,22 @@ applied_on command old mid new has served waiting = record {
     added = waiting ∙ has.tells.added;
   };
   last = ap (λ (s : Served). s.last) served ∙ has.last;
+  let_go = ap (λ (s : Served). s.let_go) served ∙ has.let_go;
   lines = ap (λ (s : Served). s.lines) served ∙ has.lines;
 }
 
 -- a site that was opened and restarted
-pub is_started : (opened : SiteValue) (last : LastNotes) (lines : ℕ) (waiting : List ℕ) (log safe : Option (List ℕ)) (least : Option ℕ)
-    (settled : ℕ) (lost : Bool) (now : ServiceValue) → lines ≡ 0 → waiting ≡ []
-    → HasApplied Restart (value_of opened last lines waiting log safe least settled lost) now → IsSettled now → IsStarted opened last now
-is_started opened last lines waiting log safe least settled lost now zero none has all =
+pub is_started : (opened : SiteValue) (last : LastNotes) (told : Option Gone) (lines : ℕ) (waiting : List ℕ) (log safe : Option (List ℕ))
+    (least : Option ℕ) (settled : ℕ) (lost : Bool) (now : ServiceValue) → lines ≡ 0 → waiting ≡ []
+    → HasApplied Restart (value_of opened last told lines waiting log safe least settled lost) now → IsSettled now
+    → IsStarted (whole_of opened) last (let_go_of opened.gone told) now
+is_started opened last told lines waiting log safe least settled lost now zero none has all =
     let text : has.tells.text ≡ now.waiting =
     sym (has.tells.added ∙ ap (λ (t : List ℕ). t ++ has.tells.text) none) in
     record {
-      restarted = subst (Answered opened Restart now.served.site) text has.tells.answered;
+      restarted = subst (Answered (whole_of opened) Restart now.served.site) text has.tells.answered;
       last = has.last;
+      let_go_is = has.let_go;
       none = has.lines ∙ zero;
       settled = all;
     }
@@ -377,7 +402,7 @@ is_started opened last lines waiting log safe least settled lost now zero none h
 -- and a log's
 pub is_opened : (schema : SchemaValue) (number : SiteNo) (known : Option (List ℕ)) (held : List ℕ) (last : LastNotes) (opened : SiteValue)
     (now : ServiceValue) → HoldsRecords known held last opened.bytes → Opens schema number opened.bytes 0 opened
-    → IsStarted opened last now → IsOpened schema number known now
+    → IsStarted opened last nothing_gone now → IsOpened schema number known now
 is_opened schema number known held last opened now holds opens started = record {
   held = held;
   last = last;

@@ -8,15 +8,21 @@ use Rattle.field_bounds.specs.declared.entry.Command.TheVariants.{Commit}
 use Rattle.field_bounds.specs.declared.entry.Reply.{Reply}
 use Rattle.entry_text.specs.Spelling.{entry_text}
 use Rattle.entry_text.specs.Lines.{max_line}
+use Rattle.kept_records.specs.declared.record.Record.{Record}
 use Rattle.site_step.specs.Site.{SiteValue, Applies}
+use Rattle.site_service.specs.Answers.{held_of}
+use Rattle.log_head.specs.declared.gone.Gone.{Gone}
+use Rattle.site_service.specs.declared.key_answer.KeyAnswer.TheVariants.{Kept}
+use Rattle.site_service.specs.LetGo.{LetGo, let_go_of, commit_answer, key_answer}
 use Rattle.site_service.specs.declared.bad_line.BadLine.{BadLine}
 use Rattle.site_service.specs.declared.bad_line.BadLine.TheVariants.{TooLong, OtherSite, UnknownWord, NoField, NoCommand}
 use Rattle.field_bounds.specs.declared.id.TxnId.{TxnId}
 use Rattle.entry_text.specs.Ranges.{IdFits}
 use Rattle.caller_keys.specs.Keys.{IsKey}
 use Rattle.site_service.specs.Kept.{LastNotes, TellsCommit, TellsKey, kept_text, kept_words, kept_key_text, kept_key_words}
-use Rattle.site_service.specs.Answers.{Served, served_of, IsStill, Asks, AsksCommit, Answered, CarriedOut, LeavesCommand, NotesCommit, CommitsWith, CommittedWithKey, IsBad, bad_text, Passed, LeavesAnswer}
+use Rattle.site_service.specs.Answers.{Served, served_of, whole_of, IsStill, Asks, AsksCommit, Answered, CarriedOut, LeavesCommand, NotesCommit, CommitsWith, CommittedWithKey, IsBad, bad_text, Passed, LeavesAnswer}
 use Rattle.site_service.specs.Service.{Tells, TellsEntry}
+use Rattle.site_service.proofs.Held.{applies_whole, answered_whole}
 
 -- where an error is told anything holds of it that holds
 pub any_err : {T E : Type 0} (r : Result T E) (P : Type 0) → P → OnErr r P
@@ -58,16 +64,39 @@ module _ (schema : SchemaValue) (number : SiteNo) (old new : SiteValue) (own : s
     notes = notes;
   }
 
+commits_whole : (old new : SiteValue) (last later : LastNotes) (txn : TxnId) (key text : List ℕ)
+    → CommitsWith old last txn key new later text → CommitsWith (whole_of old) last txn key (whole_of new) later text
+commits_whole old new last later txn key text commits =
+    record {
+      answered = record {
+        reply = commits.answered.reply;
+        applies = applies_whole old new (Commit txn) commits.answered.reply commits.answered.applies;
+        told = commits.answered.told;
+      };
+      notes = commits.notes;
+    }
+
 module _ (schema : SchemaValue) (number : SiteNo) (old : SiteValue) (own : schema ≡ old.schema) (is : number ≡ old.site) (last : LastNotes)
-    (before count : ℕ) where
+    (front : Option Gone) (before count : ℕ) where
   abbrev was : Served
-  was = served_of old last before
+  was = served_of old last front before
 
   abbrev now : Served
-  now = served_of old last count
+  now = served_of old last front count
 
   still : IsStill was now
-  still = record { site = refl; last = refl }
+  still = record { site = refl; last = refl; let_go = refl }
+
+  -- nothing is let go by a call of the site
+  same_gone : (new : SiteValue) → new.gone ≡ old.gone → let_go_of new.gone front ≡ let_go_of old.gone front
+  same_gone new gone = ap (λ (rs : List Record). let_go_of rs front) gone
+
+  still_by : (new : SiteValue) (later : LastNotes) → new ≡ old → later ≡ last → IsStill was (served_of new later front count)
+  still_by new later same notes = record {
+    site = ap whole_of same;
+    last = notes;
+    let_go = same_gone new (ap (λ (v : SiteValue). v.gone) same);
+  }
 
   asks_here : (line : List ℕ) (command : Command) → Asks schema number line command → Asks old.schema old.site line command
   asks_here line command asks =
@@ -75,18 +104,24 @@ module _ (schema : SchemaValue) (number : SiteNo) (old : SiteValue) (own : schem
 
   -- a command
   carried_out : (line : List ℕ) (command : Command) (new : SiteValue) (text : List ℕ) → Asks schema number line command
-      → Answered old command new text → CarriedOut was line (served_of new last count) text
+      → Answered old command new text → CarriedOut was line (served_of new last front count) text
   carried_out line command new text asks answered =
-      record { command = command; asks = asks_here line command asks; answered = answered; last = refl }
+      record {
+        command = command;
+        asks = asks_here line command asks;
+        answered = answered_whole old new command text answered;
+        last = refl;
+        let_go = same_gone new answered.applies.same.gone;
+      }
 
   pub told_command : (out grown line : List ℕ) (command : Command) (new : SiteValue) → Asks schema number line command
-      → TellsEntry command old new out grown → Tells line was (served_of new last count) out grown
+      → TellsEntry command old new out grown → Tells line was (served_of new last front count) out grown
   told_command out grown line command new asks told =
       record { text = told.text; answer = inl (carried_out line command new told.text asks told.answered); added = told.added }
 
   pub left_command : (line : List ℕ) (command : Command) (new : SiteValue) → Asks schema number line command
-      → LeavesCommand old command new → LeavesAnswer was line (served_of new last count)
-  left_command line command new asks (inl same) = inl (record { site = same; last = refl })
+      → LeavesCommand old command new → LeavesAnswer was line (served_of new last front count)
+  left_command line command new asks (inl same) = inl (still_by new last same refl)
   left_command line command new asks (inr did) = inr (did.0, inl (carried_out line command new did.0 asks did.1))
 
   -- nothing was done
@@ -119,9 +154,10 @@ module _ (schema : SchemaValue) (number : SiteNo) (old : SiteValue) (own : schem
 
   -- a question for a commit
   pub told_commit : (out grown line : List ℕ) (txn : TxnId) → IdFits txn × (line ≡ kept_text txn)
-      → (kept : Bool) × TellsCommit old.bytes txn kept × (grown ≡ out ++ (line ++ kept_words kept)) → Tells line was now out grown
+      → (kept : Bool) × TellsCommit (held_of old) txn kept × (grown ≡ out ++ (line ++ kept_words (commit_answer front txn kept)))
+      → Tells line was now out grown
   told_commit out grown line txn asks told = record {
-    text = line ++ kept_words told.0;
+    text = line ++ kept_words (commit_answer front txn told.0);
     answer = inr (inr (inr (inl (record {
       txn = txn;
       fits = asks.0;
@@ -136,10 +172,10 @@ module _ (schema : SchemaValue) (number : SiteNo) (old : SiteValue) (own : schem
 
   -- a question for a key
   pub told_key : (out grown line key : List ℕ) → IsKey key × (line ≡ kept_key_text key)
-      → (kept : Option TxnId) × TellsKey old.bytes last key kept × (grown ≡ out ++ (kept_key_text key ++ kept_key_words kept))
-      → Tells line was now out grown
+      → (kept : Option TxnId) × TellsKey (held_of old) last key kept
+      × (grown ≡ out ++ (kept_key_text key ++ kept_key_words (key_answer front kept))) → Tells line was now out grown
   told_key out grown line key asks told = record {
-    text = kept_key_text key ++ kept_key_words told.0;
+    text = kept_key_text key ++ kept_key_words (key_answer front told.0);
     answer = inr (inr (inr (inr (inl (record {
       key = key;
       is_key = asks.0;
@@ -147,7 +183,7 @@ module _ (schema : SchemaValue) (number : SiteNo) (old : SiteValue) (own : schem
       kept = told.0;
       tells = told.1;
       still = still;
-      told = ap (λ (l : List ℕ). l ++ kept_key_words told.0) (sym asks.1);
+      told = ap (λ (l : List ℕ). l ++ kept_key_words (key_answer front told.0)) (sym asks.1);
     })))));
     added = told.2;
   }
@@ -157,10 +193,10 @@ module _ (schema : SchemaValue) (number : SiteNo) (old : SiteValue) (own : schem
     commit_here : AsksCommit old.schema old.site line txn key
     commit_here = subst (λ (n : SiteNo). AsksCommit old.schema n line txn key) is (subst (λ (s : SchemaValue). AsksCommit s number line txn key) own asks)
 
-    pub told_refused : (out grown : List ℕ) (kept : TxnId) → TellsKey old.bytes last key (Some kept)
-        → grown ≡ out ++ (kept_key_text key ++ kept_key_words (Some kept)) → Tells line was now out grown
+    pub told_refused : (out grown : List ℕ) (kept : TxnId) → TellsKey (held_of old) last key (Some kept)
+        → grown ≡ out ++ (kept_key_text key ++ kept_key_words (Kept kept)) → Tells line was now out grown
     told_refused out grown kept tells added = record {
-      text = kept_key_text key ++ kept_key_words (Some kept);
+      text = kept_key_text key ++ kept_key_words (Kept kept);
       answer = inr (inr (inl (record {
         txn = txn;
         key = key;
@@ -173,17 +209,25 @@ module _ (schema : SchemaValue) (number : SiteNo) (old : SiteValue) (own : schem
       added = added;
     }
 
-    module _ (tells : TellsKey old.bytes last key None) (new : SiteValue) (later : LastNotes) where
-      committed : (text : List ℕ) → CommitsWith old last txn key new later text → CommittedWithKey was line (served_of new later count) text
-      committed text commits = record { txn = txn; key = key; asks = commit_here; tells = tells; commits = commits }
+    module _ (tells : TellsKey (held_of old) last key None) (new : SiteValue) (later : LastNotes) where
+      committed : (text : List ℕ) → CommitsWith old last txn key new later text
+          → CommittedWithKey was line (served_of new later front count) text
+      committed text commits = record {
+        txn = txn;
+        key = key;
+        asks = commit_here;
+        tells = tells;
+        commits = commits_whole old new last later txn key text commits;
+        let_go = same_gone new commits.answered.applies.same.gone;
+      }
 
       pub told_committed : (out grown : List ℕ) → (text : List ℕ) × CommitsWith old last txn key new later text × (grown ≡ out ++ text)
-          → Tells line was (served_of new later count) out grown
+          → Tells line was (served_of new later front count) out grown
       told_committed out grown told = record { text = told.0; answer = inr (inl (committed told.0 told.1)); added = told.2 }
 
       pub left_committed : ((new ≡ old) × (later ≡ last)) ⊎ ((text : List ℕ) × CommitsWith old last txn key new later text)
-          → LeavesAnswer was line (served_of new later count)
-      left_committed (inl same) = inl (record { site = same.0; last = same.1 })
+          → LeavesAnswer was line (served_of new later front count)
+      left_committed (inl same) = inl (still_by new later same.0 same.1)
       left_committed (inr did) = inr (did.0, inr (inl (committed did.0 did.1)))
 
 -- ---- what stands in front of a key

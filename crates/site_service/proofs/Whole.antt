@@ -64,7 +64,7 @@ adds_whole : (at : Place) (command : Command) (old new : List ℕ) (rs : List Re
 adds_whole at command old new rs log adds =
     ap last_part (adds rs [] log) ∙ last_behind old (lines_of at command rs) (rest_is_last old rs [] log) ∙ lines_of_whole at command rs
 
-writes_whole : (at : Place) (command : Command) (reply : Reply) (old new : List ℕ) (rs : List Record) → IsLog old rs [] → IsSure reply
+pub writes_whole : (at : Place) (command : Command) (reply : Reply) (old new : List ℕ) (rs : List Record) → IsLog old rs [] → IsSure reply
     → Writes at command reply old new → last_part new ≡ []
 writes_whole at command (Refused refusal) old new rs log sure writes = ap last_part writes ∙ rest_is_last old rs [] log
 writes_whole at command Unsure old new rs log sure writes = absurd (sure.0 refl)

@@ -1,5 +1,5 @@
 -- What a site answers to lines (this project).
-use Rattle.std.specs.Prelude.{◌≡◌, ◌≢◌, ◌⊎◌, ◌<◌, ◌≤◌, ℕ, Bool, true, false, if◌then◌else◌, List, [], ◌∷◌, ◌++◌, length, Option, None, Some, codes}
+use Rattle.std.specs.Prelude.{◌≡◌, ◌≢◌, ◌⊎◌, ◌<◌, ◌≤◌, ℕ, Bool, true, false, if◌then◌else◌, List, [], ◌∷◌, ◌++◌, length, drop, Option, None, Some, codes}
 use Rattle.std.specs.Fmt.{decimal}
 use Rattle.field_bounds.specs.Schema.{SchemaValue}
 use Rattle.field_bounds.specs.declared.id.SiteNo.{SiteNo}
@@ -8,7 +8,10 @@ use Rattle.field_bounds.specs.declared.entry.Command.{Command}
 use Rattle.field_bounds.specs.declared.entry.Command.TheVariants.{Commit}
 use Rattle.field_bounds.specs.declared.entry.Reply.{Reply}
 use Rattle.field_bounds.specs.declared.entry.Reply.TheVariants.{Committed}
+use Rattle.std.specs.List.{flat_map}
+use Rattle.kept_records.specs.Text.{text as record_text}
 use Rattle.site_step.specs.Site.{SiteValue, Applies, entry_of}
+use Rattle.log_head.specs.declared.gone.Gone.{Gone}
 use Rattle.entry_text.specs.Spelling.{command_text, entry_text}
 use Rattle.entry_text.specs.Ranges.{SiteFits, IdFits, CommandFits}
 use Rattle.entry_text.specs.Lines.{max_line}
@@ -16,24 +19,45 @@ use Rattle.script_input.specs.Streams.{one_more}
 use Rattle.line_words.specs.Words.{words}
 use Rattle.site_service.specs.LineFaults.{fault_in}
 use Rattle.caller_keys.specs.Keys.{IsKey}
+use Rattle.site_service.specs.declared.key_answer.KeyAnswer.TheVariants.{Kept}
+use Rattle.site_service.specs.LetGo.{LetGo, let_go_of, commit_answer, key_answer}
 use Rattle.site_service.specs.Kept.{LastNotes, last_of, noted, TellsCommit, TellsKey, kept_text, kept_words, kept_key_text, kept_key_words}
 use Rattle.site_service.specs.declared.bad_line.BadLine.{BadLine}
 use Rattle.site_service.specs.declared.bad_line.BadLine.TheVariants.{TooLong, OtherSite, UnknownWord, NoField, NoCommand}
 
--- What the answer to a line depends on: the site; the keys of callers that were noted, each with its last transaction; and how many
--- lines were answered before, as a u64 that begins again at 0.
+-- A site as if nothing of its log had been let go: where the bytes of the log lie makes no difference to what it answers.
+abbrev pub whole_of : SiteValue → SiteValue
+whole_of site = record site { gone = [] }
+
+-- What is held of a site's log: all bytes but the texts of the records that are gone.
+abbrev pub held_of : SiteValue → List ℕ
+held_of site = drop (length (flat_map record_text site.gone)) site.bytes
+
+-- What the answer to a line depends on: the site, as if nothing of its log had been let go; the keys of callers that were noted, each
+-- with its last transaction; what was let go of the log; and how many lines were answered before, as a u64 that begins again at 0.
 pub record Served : Type 0 where
   pub site : SiteValue
   pub last : LastNotes
+  pub let_go : LetGo
   pub lines : ℕ
 
-abbrev pub served_of : SiteValue → LastNotes → ℕ → Served
-served_of site last lines = record { site = site; last = last; lines = lines }
+abbrev pub served_of : SiteValue → LastNotes → Option Gone → ℕ → Served
+served_of site last told lines =
+    record { site = whole_of site; last = last; let_go = let_go_of site.gone told; lines = lines }
 
--- Neither the site changes nor a key is noted.
+-- The site itself.
+abbrev pub site_of : Served → SiteValue
+site_of served = record served.site { gone = served.let_go.gone }
+
+-- What is held of its log.
+abbrev pub held_in : Served → List ℕ
+held_in served = held_of (site_of served)
+
+-- Neither the site changes nor a key is noted, and nothing is let go.
 pub record IsStill (old new : Served) : Type 0 where
   pub site : new.site ≡ old.site
   pub last : new.last ≡ old.last
+  pub let_go : new.let_go ≡ old.let_go
 
 -- ---- a line that asks something
 
@@ -58,16 +82,18 @@ pub record CarriedOut (old : Served) (line : List ℕ) (new : Served) (text : Li
   pub asks : Asks old.site.schema old.site.site line command
   pub answered : Answered old.site command new.site text
   pub last : new.last ≡ old.last
+  pub let_go : new.let_go ≡ old.let_go
 
--- The line asks whether a commit is in the log. All stays as it is, and the text tells it behind the line.
+-- The line asks whether a commit is in the log. All stays as it is, and the text tells it behind the line, by the records that are held
+-- and what is told of those that were let go.
 pub record ToldKept (old : Served) (line : List ℕ) (new : Served) (text : List ℕ) : Type 0 where
   pub txn : TxnId
   pub fits : IdFits txn
   pub asked : line ≡ kept_text txn
   pub kept : Bool
-  pub tells : TellsCommit old.site.bytes txn kept
+  pub tells : TellsCommit (held_in old) txn kept
   pub still : IsStill old new
-  pub told : text ≡ line ++ kept_words kept
+  pub told : text ≡ line ++ kept_words (commit_answer old.let_go.told txn kept)
 
 -- ---- a line with a key
 
@@ -97,25 +123,26 @@ pub record CommitsWith (old : SiteValue) (last : LastNotes) (txn : TxnId) (key :
   pub answered : Answered old (Commit txn) new text
   pub notes : NotesCommit last later key txn answered.reply
 
--- The line asks a commit with a key, with which one is kept already. All stays as it is, and the text tells that one: as the answer to
+-- The line asks a commit with a key, with which one is kept already, among the records that are held. All stays as it is, and the text tells that one: as the answer to
 -- the question for the key does.
 pub record RefusedKey (old : Served) (line : List ℕ) (new : Served) (text : List ℕ) : Type 0 where
   pub txn : TxnId
   pub key : List ℕ
   pub asks : AsksCommit old.site.schema old.site.site line txn key
   pub other : TxnId
-  pub tells : TellsKey old.site.bytes old.last key (Some other)
+  pub tells : TellsKey (held_in old) old.last key (Some other)
   pub still : IsStill old new
-  pub told : text ≡ kept_key_text key ++ kept_key_words (Some other)
+  pub told : text ≡ kept_key_text key ++ kept_key_words (Kept other)
 
--- The line asks a commit with a key, with which none is kept. It is carried out, and the text is that of its entry, without the key,
+-- The line asks a commit with a key, with which none is kept among the records that are held. It is carried out, and the text is that of its entry, without the key,
 -- which is noted for its transaction where it was committed.
 pub record CommittedWithKey (old : Served) (line : List ℕ) (new : Served) (text : List ℕ) : Type 0 where
   pub txn : TxnId
   pub key : List ℕ
   pub asks : AsksCommit old.site.schema old.site.site line txn key
-  pub tells : TellsKey old.site.bytes old.last key None
+  pub tells : TellsKey (held_in old) old.last key None
   pub commits : CommitsWith old.site old.last txn key new.site new.last text
+  pub let_go : new.let_go ≡ old.let_go
 
 -- The line asks which commit is kept with a key. All stays as it is, and the text tells it behind the line.
 pub record ToldKey (old : Served) (line : List ℕ) (new : Served) (text : List ℕ) : Type 0 where
@@ -123,9 +150,9 @@ pub record ToldKey (old : Served) (line : List ℕ) (new : Served) (text : List 
   pub is_key : IsKey key
   pub asked : line ≡ kept_key_text key
   pub kept : Option TxnId
-  pub tells : TellsKey old.site.bytes old.last key kept
+  pub tells : TellsKey (held_in old) old.last key kept
   pub still : IsStill old new
-  pub told : text ≡ line ++ kept_key_words kept
+  pub told : text ≡ line ++ kept_key_words (key_answer old.let_go.told kept)
 
 -- ---- a line that asks nothing
 

@@ -9,8 +9,11 @@ use Rattle.site_service.specs.declared.kept.KeptCommits.{KeptCommits}
 use Rattle.field_bounds.specs.Schema.{SchemaValue}
 use Rattle.caller_keys.specs.Keys.{KeyNote, IsNote, note_line, AreLines, last_txn}
 use Rattle.file_medium.specs.Copies.{IsCopyOf}
-use Rattle.site_service.specs.Kept.{LastNotes, last_of, has_commit}
-use Rattle.site_service.specs.Service.{ServiceValue, IsTextOf, IsLinked}
+use Rattle.site_step.specs.Site.{SiteValue}
+use Rattle.site_service.specs.Commits.{has_commit}
+use Rattle.site_service.specs.Kept.{LastNotes, last_of}
+use Rattle.site_service.specs.Answers.{held_in}
+use Rattle.site_service.specs.Service.{ServiceValue, IsTextOf, StandsOnHeld, IsLinked}
 
 -- The first so many bytes are whole lines, and the set has exactly the transactions whose commits are among their records.
 pub record IsIndexOf (kept : KeptCommits) (bytes : List ℕ) : Type 0 where
@@ -38,9 +41,17 @@ pub record IsFollowed (held kept : Option (List ℕ)) (last : LastNotes) (record
   pub log : IsCopyOf held text
   pub safe : IsCopyOf kept text
 
--- What holds of every service: the link between its medium and its log, the set is that of the medium's bytes, and the lines of notes
--- are those that the log hasn't got.
-pub record IsSoundService (schema : SchemaValue) (v : ServiceValue) (kept : KeptCommits) (lines : List ℕ) : Type 0 where
-  pub linked : IsLinked schema v
-  pub index : IsIndexOf kept v.served.site.bytes
+-- The site goes on over such a medium, to which it only appends; nothing is let go.
+pub record GoesOn (old new : SiteValue) : Type 0 where
+  pub stands : StandsOnHeld new
+  pub gone : new.gone ≡ old.gone
+  pub added : List ℕ
+  pub bytes : new.bytes ≡ old.bytes ++ added
+  pub schema : new.schema ≡ old.schema
+
+-- What holds of every service: the link between its medium and its log, the set is that of the bytes that the medium holds, and the
+-- lines of notes are those that the log hasn't got.
+pub record IsSoundService (schema : SchemaValue) (site : SiteValue) (v : ServiceValue) (kept : KeptCommits) (lines : List ℕ) : Type 0 where
+  pub linked : IsLinked schema site v
+  pub index : IsIndexOf kept (held_in v.served)
   pub noting : AreNoteLines lines linked.more

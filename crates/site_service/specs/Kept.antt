@@ -1,39 +1,41 @@
 -- Which commits a log holds, and how it is asked (this project).
-use Rattle.std.specs.Prelude.{◌≡◌, ℕ, ◌==◌, ◌&&◌, Bool, true, false, if◌then◌else◌, List, [], ◌∷◌, ◌++◌, Option, None, Some, bytes_eq, codes}
-use Rattle.std.specs.List.{list_any}
+use Rattle.std.specs.Prelude.{◌≡◌, ℕ, Bool, if◌then◌else◌, List, [], ◌∷◌, ◌++◌, Option, None, Some, bytes_eq, codes}
 use Rattle.field_bounds.specs.declared.id.TxnId.{TxnId}
 use Rattle.kept_records.specs.declared.record.Record.{Record}
-use Rattle.kept_records.specs.declared.record.Record.TheVariants.{Commit, Gift, Accept, Tighten, Restart, Summary}
 use Rattle.kept_records.specs.Logs.{IsLog}
+use Rattle.site_service.specs.Commits.{has_commit}
+use Rattle.log_head.specs.declared.gone.Gone.{Gone}
+use Rattle.log_head.specs.declared.horizon.CommitAnswer.{CommitAnswer}
+use Rattle.log_head.specs.declared.horizon.CommitAnswer.TheVariants.{Yes, No, Forgotten}
+use Rattle.log_head.specs.Horizons.{IsRight}
 use Rattle.std.specs.Map.{lookup}
 use Rattle.entry_text.specs.Spelling.{id_text}
 use Rattle.caller_keys.specs.Tables.{stored_of}
-
--- The record is the commit of this transaction.
-abbrev pub is_commit_of : TxnId → Record → Bool
-is_commit_of txn (Commit other escrows) = other.epoch == txn.epoch && other.number == txn.number
-is_commit_of txn (Gift to field kind total) = false
-is_commit_of txn (Accept from field kind total) = false
-is_commit_of txn (Tighten field kind total) = false
-is_commit_of txn (Restart epoch) = false
-is_commit_of txn (Summary epoch rights gifts accepts tightenings) = false
-
--- One of the records is.
-abbrev pub has_commit : TxnId → List Record → Bool
-has_commit txn rs = list_any (is_commit_of txn) rs
+use Rattle.site_service.specs.declared.key_answer.KeyAnswer.{KeyAnswer}
+use Rattle.site_service.specs.declared.key_answer.KeyAnswer.TheVariants as keys
+use Rattle.site_service.specs.LetGo.{commit_answer, key_answer}
 
 -- It tells whether the commit is among the records of a log.
 abbrev pub TellsCommit : List ℕ → TxnId → Bool → Type 0
 TellsCommit bytes txn kept = (rs : List Record) (rest : List ℕ) → IsLog bytes rs rest → kept ≡ has_commit txn rs
+
+-- The answer of a commit, by the records of a log that is held and by what is told of what was let go.
+abbrev pub AnswersCommit : List ℕ → Option Gone → TxnId → CommitAnswer → Type 0
+AnswersCommit held told txn answer = (kept : Bool) × TellsCommit held txn kept × (answer ≡ commit_answer told txn kept)
+
+-- The answer of a commit is right of the records of a log: yes only where it is among them, no only where it isn't.
+abbrev pub IsRightOf : List ℕ → TxnId → CommitAnswer → Type 0
+IsRightOf bytes txn answer = (rs : List Record) (rest : List ℕ) → IsLog bytes rs rest → IsRight answer (has_commit txn rs)
 
 -- The question whether a commit is kept.
 abbrev pub kept_text : TxnId → List ℕ
 kept_text txn = codes "kept " ++ id_text txn
 
 -- What follows the question in the answer to it, with a line feed (10).
-abbrev pub kept_words : Bool → List ℕ
-kept_words true = codes " -> yes" ++ 10 ∷ []
-kept_words false = codes " -> no" ++ 10 ∷ []
+abbrev pub kept_words : CommitAnswer → List ℕ
+kept_words Yes = codes " -> yes" ++ 10 ∷ []
+kept_words No = codes " -> no" ++ 10 ∷ []
+kept_words Forgotten = codes " -> forgotten" ++ 10 ∷ []
 
 -- ---- keys
 
@@ -65,11 +67,16 @@ if_committed rs (Some txn) = if has_commit txn rs then Some txn else None
 abbrev pub TellsKey : List ℕ → LastNotes → List ℕ → Option TxnId → Type 0
 TellsKey bytes last key kept = (rs : List Record) (rest : List ℕ) → IsLog bytes rs rest → kept ≡ if_committed rs (last_of last key)
 
+-- The answer of a key, by the records of a log that is held and by what is told of what was let go.
+abbrev pub AnswersKey : List ℕ → Option Gone → LastNotes → List ℕ → KeyAnswer → Type 0
+AnswersKey held told last key answer = (kept : Option TxnId) × TellsKey held last key kept × (answer ≡ key_answer told kept)
+
 -- The question which commit is kept with a key.
 abbrev pub kept_key_text : List ℕ → List ℕ
 kept_key_text key = codes "kept key " ++ key
 
 -- What follows the question in the answer to it, with a line feed (10).
-abbrev pub kept_key_words : Option TxnId → List ℕ
-kept_key_words (Some txn) = codes " -> " ++ (id_text txn ++ 10 ∷ [])
-kept_key_words None = codes " -> no" ++ 10 ∷ []
+abbrev pub kept_key_words : KeyAnswer → List ℕ
+kept_key_words (keys.Kept txn) = codes " -> " ++ (id_text txn ++ 10 ∷ [])
+kept_key_words keys.No = codes " -> no" ++ 10 ∷ []
+kept_key_words keys.Forgotten = codes " -> forgotten" ++ 10 ∷ []

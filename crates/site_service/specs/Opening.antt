@@ -12,6 +12,7 @@ use Rattle.site_step.specs.declared.site.opening.OpenFault.TheVariants.{Device, 
 use Rattle.file_medium.specs.Copies.{IsCopyOf}
 use Rattle.file_medium.specs.Files.{SparesFront}
 use Rattle.site_service.specs.Kept.{LastNotes}
+use Rattle.site_service.specs.LetGo.{LetGo, nothing_gone}
 use Rattle.site_service.specs.Answers.{Answered}
 use Rattle.site_service.specs.Service.{ServiceValue, IsTextOf, IsSettled}
 
@@ -58,11 +59,12 @@ SparesLines (Some bytes) was now = (lines torn : List ℕ) → AreLines bytes li
 
 -- ---- what it finds
 
--- A service over a site that was opened: that was restarted once, the answer to it waits, the keys are those that were found, no line
--- was answered, and all is settled.
-pub record IsStarted (opened : SiteValue) (found : LastNotes) (v : ServiceValue) : Type 0 where
+-- A service over a site that was opened: that was restarted once, the answer to it waits, the keys are those that were found, this was
+-- let go of the log, no line was answered, and all is settled.
+pub record IsStarted (opened : SiteValue) (found : LastNotes) (let_go : LetGo) (v : ServiceValue) : Type 0 where
   pub restarted : Answered opened Restart v.served.site v.waiting
   pub last : v.served.last ≡ found
+  pub let_go_is : v.served.let_go ≡ let_go
   pub none : v.served.lines ≡ 0
   pub settled : IsSettled v
 
@@ -72,7 +74,7 @@ pub record HoldsRecords (known : Option (List ℕ)) (held : List ℕ) (last : La
   pub lines : HoldsLines known held
   pub is : IsTextOf held last records
 
--- Such a service over the whole lines of a log.
+-- Such a service over the whole lines of a log, of which nothing was let go.
 pub record IsOpened (schema : SchemaValue) (number : SiteNo) (known : Option (List ℕ)) (v : ServiceValue) : Type 0 where
   pub held : List ℕ
   pub last : LastNotes
@@ -80,7 +82,7 @@ pub record IsOpened (schema : SchemaValue) (number : SiteNo) (known : Option (Li
   pub holds : HoldsRecords known held last records
   pub opened : SiteValue
   pub opens : Opens schema number records 0 opened
-  pub started : IsStarted opened last v
+  pub started : IsStarted opened last nothing_gone v
 
 -- A line of the log is named only where it is the first bad one of its whole lines that are no notes, and these are then no lawful log.
 -- Its number counts those lines alone.

@@ -13,11 +13,13 @@ use Rattle.caller_keys.specs.Keys.{KeyNote, IsNote, note_line, IsKeyed, AreLines
 use Rattle.site_service.specs.declared.fault.ServeFault.{ServeFault}
 use Rattle.site_service.specs.declared.fault.ServeFault.TheVariants as faults
 use Rattle.site_service.specs.Kept.{LastNotes, last_of}
-use Rattle.site_service.specs.Answers.{Served, Answered, IsAnswer, AnswersLine, AnswersLines}
+use Rattle.log_head.specs.declared.gone.Gone.{Gone}
+use Rattle.site_service.specs.LetGo.{IsTold}
+use Rattle.site_service.specs.Answers.{Served, served_of, held_in, Answered, IsAnswer, AnswersLine, AnswersLines}
 
 -- What the answers depend on; the text of the answers that wait to be let out; the bytes that the log's file holds, those of it
--- that are safe, and the fewest that a cut of it has left, where they are known; how many of the medium's bytes are settled there;
--- and whether a call of the file that was to settle more has failed.
+-- that are safe, and the fewest that a cut of it has left, where they are known; how many of the bytes that the medium holds are
+-- settled there; and whether a call of the file that was to settle more has failed.
 pub record ServiceValue : Type 0 where
   pub served : Served
   pub waiting : List ℕ
@@ -28,10 +30,11 @@ pub record ServiceValue : Type 0 where
   pub lost : Bool
 
 -- A service's value, from its parts.
-abbrev pub value_of : SiteValue → LastNotes → ℕ → List ℕ → Option (List ℕ) → Option (List ℕ) → Option ℕ → ℕ → Bool → ServiceValue
-value_of site last lines waiting log safe least settled lost =
+abbrev pub value_of : SiteValue → LastNotes → Option Gone → ℕ → List ℕ → Option (List ℕ) → Option (List ℕ) → Option ℕ → ℕ → Bool
+    → ServiceValue
+value_of site last told lines waiting log safe least settled lost =
     record {
-      served = record { site = site; last = last; lines = lines };
+      served = served_of site last told lines;
       waiting = waiting;
       log = log;
       safe = safe;
@@ -68,28 +71,38 @@ pub record HoldsText (known : Option (List ℕ)) (last : LastNotes) (records : L
   pub copy : IsCopyOf known text
   pub is : IsTextOf text last records
 
--- What is safe of the log is a text of whole lines, whose records are the first so many of the medium's bytes, which are settled; and so
--- is all that the log holds, unless a call of its file has failed. Its notes and some more tell of each key its last transaction. The
--- schema is the site's.
-pub record IsLinked (schema : SchemaValue) (v : ServiceValue) : Type 0 where
-  pub own : schema ≡ v.served.site.schema
-  pub whole : IsWhole v.served.site
-  pub within : v.settled ≤ length v.served.site.bytes
+-- The site stands on a medium that never fails, and its log is lawful records and nothing behind them: those that are gone, and those
+-- that the medium holds.
+pub record StandsOnHeld (v : SiteValue) : Type 0 where
+  pub never : v.foretold ≡ Some Never
+  pub records : List Record
+  pub log : Holds v.schema v.site.0 v.bytes records []
+  pub held : List Record
+  pub parts : log.all ≡ v.gone ++ held
+
+-- What is safe of the log is a text of whole lines, whose records are the first so many of the bytes that the medium of this site
+-- holds, which are settled; and so is all that the log holds: unless a call of its file has failed. Its notes and some more tell of each
+-- key its last transaction. The schema is the site's, and what is told of what was let go is true.
+pub record IsLinked (schema : SchemaValue) (site : SiteValue) (v : ServiceValue) : Type 0 where
+  pub own : schema ≡ site.schema
+  pub stands : StandsOnHeld site
+  pub let_go : IsTold v.served.let_go
+  pub within : v.settled ≤ length (held_in v.served)
   pub text : List ℕ
   pub lines : AreLines text
   pub notes : List KeyNote
-  pub keyed : IsKeyed text notes (take v.settled v.served.site.bytes)
+  pub keyed : IsKeyed text notes (take v.settled (held_in v.served))
   pub more : List KeyNote
   pub tells : (key : List ℕ) → last_of v.served.last key ≡ last_txn key (notes ++ more)
-  pub safe : IsCopyOf v.safe text
+  pub safe : v.lost ≡ false → IsCopyOf v.safe text
   pub log : v.lost ≡ false → IsCopyOf v.log text
 
--- All that the medium holds is in the log, and safe there, and so is the note of each key: so the record of each answer so far, and the
--- key of each commit.
+-- All that the medium holds is in the log, and safe there, and so is the note of each key: so the record of each answer so far, unless
+-- it was let go, and the key of each commit that was noted.
 pub record IsSettled (v : ServiceValue) : Type 0 where
   pub sound : v.lost ≡ false
   pub text : List ℕ
-  pub is : IsTextOf text v.served.last v.served.site.bytes
+  pub is : IsTextOf text v.served.last (held_in v.served)
   pub log : IsCopyOf v.log text
   pub safe : IsCopyOf v.safe text
 
@@ -126,6 +139,7 @@ pub record TellsEntry (command : Command) (old new : SiteValue) (out grown : Lis
 pub record HasApplied (command : Command) (old new : ServiceValue) : Type 0 where
   pub tells : TellsEntry command old.served.site new.served.site old.waiting new.waiting
   pub last : new.served.last ≡ old.served.last
+  pub let_go : new.served.let_go ≡ old.served.let_go
   pub lines : new.served.lines ≡ old.served.lines
 
 -- A line is answered, and its answer waits behind those that waited.

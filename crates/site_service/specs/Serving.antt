@@ -6,7 +6,7 @@ use Rattle.script_input.specs.Lines.{whole_lines, last_part}
 use Rattle.script_input.specs.Streams.{AppendsPrefix, one_more}
 use Rattle.site_service.specs.declared.fault.ServeFault.{ServeFault}
 use Rattle.site_service.specs.declared.fault.ServeFault.TheVariants as faults
-use Rattle.site_service.specs.Answers.{Served, AnswersLines}
+use Rattle.site_service.specs.Answers.{Served, held_in, AnswersLines}
 use Rattle.site_service.specs.Service.{ServiceValue, HoldsText, IsSettled}
 use Rattle.site_service.specs.Traces.{TraceValue, HasTold, HasKept}
 
@@ -58,7 +58,7 @@ IsLongAt faults.NoMemory read = Unit {0}
 -- A fault ends the serving. What was read is a front, whose batches were let out, and the rest: what was written is exactly what
 -- waited at first and the text of the answers to the whole lines of the front, at a write fault a front of that. The record of each
 -- of these answers is safe, and the key of each commit: what is safe of the log is a text of exactly the bytes of the site that answered
--- the last of them, with notes that tell the keys that it knew. The text of these answers is safe in the trace, maybe with more behind
+-- the last of them that were not let go, with notes that tell the keys that it knew. The text of these answers is safe in the trace, maybe with more behind
 -- it: so what is safe of the log is never ahead of the trace.
 pub record Stops (from to before after : Option (List ℕ)) (trace traced : TraceValue) (start now : ServiceValue) (fault : ServeFault)
     : Type 0 where
@@ -69,7 +69,7 @@ pub record Stops (from to before after : Option (List ℕ)) (trace traced : Trac
   pub text : List ℕ
   pub answers : AnswersLines start.served (whole_lines front) last text
   pub out : IsOutAt fault before after (start.waiting ++ text)
-  pub safe : HoldsText now.safe last.last last.site.bytes
+  pub safe : HoldsText now.safe last.last (held_in last)
   pub told : HasKept trace traced text
   pub long : IsLongAt fault front
 

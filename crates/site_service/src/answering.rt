@@ -7,20 +7,26 @@ ghost use Rattle.kept_records.specs.Keeping.{IsKept};
 ghost use Rattle.field_bounds.specs.declared.id.TxnId.{TxnId as Txn};
 ghost use Rattle.caller_keys.specs.Keys.{KeyNote};
 ghost use Rattle.site_service.specs.Answers.{served_of, AsksCommit, CommitsWith, LeavesCommand, LeavesAnswer};
-ghost use Rattle.site_service.specs.Index.{IsIndexOf, IsBehind};
+ghost use Rattle.site_service.specs.Index.{IsIndexOf, IsBehind, GoesOn};
 ghost use Rattle.site_service.specs.Kept.{TellsCommit, TellsKey, kept_words, kept_key_text, kept_key_words};
-ghost use Rattle.site_service.specs.Service.{IsWhole, Grows, Tells, TellsEntry};
+ghost use Rattle.site_service.specs.LetGo.{commit_answer, key_answer};
+ghost use Rattle.site_service.specs.Service.{StandsOnHeld, Tells, TellsEntry};
+ghost use Rattle.log_head.specs.declared.gone.Gone.{Gone as GoneValue};
+ghost use Rattle.site_service.specs.Answers.{held_of};
 
 use crate::asking::{Request, asked};
 use crate::bad_line::add_bad;
 use crate::kept::KeptCommits;
+use crate::key_answer::KeyAnswer;
 use crate::keyed::{add_kept_key, commit_and_note, kept_with};
 use crate::keys::NotedKeys;
+use crate::telling::{commit_answer, key_answer};
 use caller_keys::Key;
 use entry_text::{append_entry, append_reply};
 use field_bounds::{Command, Entry, Reply, Schema, SiteNo, TxnId};
 use history::GhostHistory;
 use kept_records::MemoryMedium;
+use log_head::{CommitAnswer, Gone};
 use site_step::Site;
 use std::alloc::{AllocError, Global};
 
@@ -54,7 +60,7 @@ pub(crate) fn carry_out(
     requires schema { schema.now ≡ site.old.schema }
     ensures ok { OnOk result (TellsEntry command site.old site.new out.old.items out.new.items) }
     ensures err { OnErr result (out.new.items ≡ out.old.items) }
-    ensures grows { IsWhole site.old → Grows site.old site.new }
+    ensures grows { StandsOnHeld site.old → GoesOn site.old site.new }
 {
     let number = site.site();
     let reply = site.apply(alloc, command)?;
@@ -128,7 +134,7 @@ fn carry_out_spelled(
     ensures ok { OnOk result (TellsEntry command site.old site.new out.old.items out.new.items) }
     ensures err { OnErr result (out.new.items ≡ out.old.items) }
     ensures left { OnErr result (LeavesCommand site.old command site.new) }
-    ensures grows { IsWhole site.old → Grows site.old site.new }
+    ensures grows { StandsOnHeld site.old → GoesOn site.old site.new }
 {
     let number = site.site();
     let reply = site.apply(alloc, command)?;
@@ -136,14 +142,18 @@ fn carry_out_spelled(
 }
 
 // The words that tell whether a commit is kept.
-fn words(kept: bool) -> &'static [u8]
+fn words(kept: CommitAnswer) -> &'static [u8]
     ensures { result.now ≡ kept_words kept }
 {
-    if kept { b" -> yes\n" } else { b" -> no\n" }
+    match kept {
+        CommitAnswer::Yes => b" -> yes\n",
+        CommitAnswer::No => b" -> no\n",
+        CommitAnswer::Forgotten => b" -> forgotten\n",
+    }
 }
 
 // Adds a question and its answer. Where memory is refused a front of it may have been added.
-fn push_kept(out: &mut Vec<u8>, line: &[u8], kept: bool) -> Result<(), AllocError>
+fn push_kept(out: &mut Vec<u8>, line: &[u8], kept: CommitAnswer) -> Result<(), AllocError>
     ensures ok { OnOk result (out.new.items ≡ out.old.items ++ (line.now ++ kept_words kept)) }
     ensures err { OnErr result (take (length out.old.items) out.new.items ≡ out.old.items) }
 {
@@ -152,7 +162,7 @@ fn push_kept(out: &mut Vec<u8>, line: &[u8], kept: bool) -> Result<(), AllocErro
 }
 
 // The same, or changes nothing where memory is refused.
-fn add_kept(out: &mut Vec<u8>, line: &[u8], kept: bool) -> Result<(), AllocError>
+fn add_kept(out: &mut Vec<u8>, line: &[u8], kept: CommitAnswer) -> Result<(), AllocError>
     ensures ok { OnOk result (out.new.items ≡ out.old.items ++ (line.now ++ kept_words kept)) }
     ensures err { OnErr result (out.new.items ≡ out.old.items) }
 {
@@ -168,6 +178,7 @@ fn add_kept(out: &mut Vec<u8>, line: &[u8], kept: bool) -> Result<(), AllocError
 fn tell_commit(
     alloc: Global,
     kept: &mut KeptCommits,
+    told: &Option<Gone>,
     log: &[u8],
     out: &mut Vec<u8>,
     line: &[u8],
@@ -176,12 +187,13 @@ fn tell_commit(
     requires index { IsIndexOf kept.old log.now }
     requires log { IsKept log.now }
     ensures ok { OnOk result ((is_kept : Bool) × TellsCommit log.now txn is_kept
-        × (out.new.items ≡ out.old.items ++ (line.now ++ kept_words is_kept))) }
+        × (out.new.items
+        ≡ out.old.items ++ (line.now ++ kept_words (commit_answer told.now txn is_kept)))) }
     ensures err { OnErr result (out.new.items ≡ out.old.items) }
     ensures index { IsIndexOf kept.new log.now }
 {
     let is_kept = kept.holds(alloc, log, txn)?;
-    add_kept(out, line, is_kept)?;
+    add_kept(out, line, commit_answer(told, txn, is_kept))?;
     Ok(())
 }
 
@@ -190,6 +202,7 @@ fn tell_key(
     alloc: Global,
     kept: &mut KeptCommits,
     keys: &NotedKeys,
+    told: &Option<Gone>,
     log: &[u8],
     out: &mut Vec<u8>,
     key: Key<'_>,
@@ -198,13 +211,13 @@ fn tell_key(
     requires log { IsKept log.now }
     ensures ok { OnOk result ((txn : Option Txn)
         × TellsKey log.now keys.now.last key.entry.bytes.now txn
-        × (out.new.items
-        ≡ out.old.items ++ (kept_key_text key.entry.bytes.now ++ kept_key_words txn))) }
+        × (out.new.items ≡ out.old.items
+        ++ (kept_key_text key.entry.bytes.now ++ kept_key_words (key_answer told.now txn)))) }
     ensures err { OnErr result (out.new.items ≡ out.old.items) }
     ensures index { IsIndexOf kept.new log.now }
 {
     let txn = kept_with(alloc, kept, keys, log, key)?;
-    add_kept_key(out, key, txn)?;
+    add_kept_key(out, key, key_answer(told, txn))?;
     Ok(())
 }
 
@@ -240,7 +253,7 @@ fn commit_spelled(
         × (keys.new.last ≡ keys.old.last)) ⊎ ((text : List ℕ)
         × CommitsWith site.old keys.old.last txn key.entry.bytes.now site.new keys.new.last
         text)) }
-    ensures grows { IsWhole site.old → Grows site.old site.new }
+    ensures grows { StandsOnHeld site.old → GoesOn site.old site.new }
     ensures behind { (notes : List KeyNote)
         → IsBehind notes keys.old.lines keys.old.last
         → IsBehind notes keys.new.lines keys.new.last }
@@ -265,24 +278,24 @@ fn answer_commit(
 ) -> Result<(), AllocError>
     requires schema { schema.now ≡ site.old.schema }
     requires asks { AsksCommit schema.now site.old.site line.now txn key.bytes.now }
-    requires whole { IsWhole site.old }
-    requires index { IsIndexOf kept.old site.old.bytes }
-    ensures ok { (count number : ℕ) → OnOk result (Tells line.now
-        (served_of site.old keys.old.last count)
-        (served_of site.new keys.new.last number) out.old.items out.new.items) }
+    requires stands { StandsOnHeld site.old }
+    requires index { IsIndexOf kept.old (held_of site.old) }
+    ensures ok { (told : Option GoneValue) (count number : ℕ) → OnOk result (Tells line.now
+        (served_of site.old keys.old.last told count)
+        (served_of site.new keys.new.last told number) out.old.items out.new.items) }
     ensures err { OnErr result (out.new.items ≡ out.old.items) }
-    ensures left { (count number : ℕ) → OnErr result (LeavesAnswer
-        (served_of site.old keys.old.last count) line.now
-        (served_of site.new keys.new.last number)) }
-    ensures grows { Grows site.old site.new }
-    ensures index { IsIndexOf kept.new site.new.bytes }
+    ensures left { (told : Option GoneValue) (count number : ℕ) → OnErr result (LeavesAnswer
+        (served_of site.old keys.old.last told count) line.now
+        (served_of site.new keys.new.last told number)) }
+    ensures grows { GoesOn site.old site.new }
+    ensures index { IsIndexOf kept.new (held_of site.new) }
     ensures behind { (notes : List KeyNote)
         → IsBehind notes keys.old.lines keys.old.last
         → IsBehind notes keys.new.lines keys.new.last }
 {
     let found = kept_with(alloc, kept, keys, site.medium().bytes(), key)?;
     match found {
-        Some(other) => add_kept_key(out, key, Some(other)),
+        Some(other) => add_kept_key(out, key, KeyAnswer::Kept(other)),
         None => commit_spelled(alloc, site, schema, keys, out, line, txn, key),
     }
 }
@@ -297,26 +310,27 @@ pub(crate) fn answer_line(
     schema: &Schema,
     kept: &mut KeptCommits,
     keys: &mut NotedKeys,
+    told: &Option<Gone>,
     out: &mut Vec<u8>,
     number: u64,
     line: &[u8],
 ) -> Result<(), AllocError>
     requires schema { schema.now ≡ site.old.schema }
-    requires whole { IsWhole site.old }
-    requires index { IsIndexOf kept.old site.old.bytes }
+    requires stands { StandsOnHeld site.old }
+    requires index { IsIndexOf kept.old (held_of site.old) }
     ensures ok { (count : ℕ) → OnOk result (Tells line.now
-        (served_of site.old keys.old.last count)
-        (served_of site.new keys.new.last number) out.old.items out.new.items) }
+        (served_of site.old keys.old.last told.now count)
+        (served_of site.new keys.new.last told.now number) out.old.items out.new.items) }
     ensures long { (count : ℕ) (whole : List ℕ) → max_line < length line.now
         → max_line < length whole → OnOk result (Tells whole
-        (served_of site.old keys.old.last count)
-        (served_of site.new keys.new.last number) out.old.items out.new.items) }
+        (served_of site.old keys.old.last told.now count)
+        (served_of site.new keys.new.last told.now number) out.old.items out.new.items) }
     ensures err { OnErr result (out.new.items ≡ out.old.items) }
     ensures left { (count : ℕ) → OnErr result (LeavesAnswer
-        (served_of site.old keys.old.last count) line.now
-        (served_of site.new keys.new.last number)) }
-    ensures grows { Grows site.old site.new }
-    ensures index { IsIndexOf kept.new site.new.bytes }
+        (served_of site.old keys.old.last told.now count) line.now
+        (served_of site.new keys.new.last told.now number)) }
+    ensures grows { GoesOn site.old site.new }
+    ensures index { IsIndexOf kept.new (held_of site.new) }
     ensures behind { (notes : List KeyNote)
         → IsBehind notes keys.old.lines keys.old.last
         → IsBehind notes keys.new.lines keys.new.last }
@@ -327,10 +341,10 @@ pub(crate) fn answer_line(
             answer_commit(alloc, site, schema, kept, keys, out, line, txn, key)
         }
         Ok(Request::Kept(txn)) => {
-            tell_commit(alloc, kept, site.medium().bytes(), out, line, txn)
+            tell_commit(alloc, kept, told, site.medium().bytes(), out, line, txn)
         }
         Ok(Request::KeptKey(key)) => {
-            tell_key(alloc, kept, keys, site.medium().bytes(), out, key)
+            tell_key(alloc, kept, keys, told, site.medium().bytes(), out, key)
         }
         Err(why) => add_bad(out, number, why),
     }

@@ -1,16 +1,22 @@
 //! Lines that name the key of a caller, answered.
 
-ghost use Rattle.std.specs.Prelude.{◌≡◌, ◌<◌, ◌++◌, ℕ, List, length, take, if◌then◌else◌, Some, None, IfOk, OnOk, OnErr};
+ghost use Rattle.std.specs.Prelude.{◌≡◌, ◌<◌, ◌++◌, ℕ, List, [], Option, length, take, if◌then◌else◌, Some, None, IfOk, OnOk, OnErr};
 ghost use Rattle.std.specs.Fmt.{decimal};
 ghost use Rattle.field_bounds.specs.declared.entry.Command.{Command as CommandType};
 ghost use Rattle.caller_keys.specs.Keys.{KeyNote, IsNote, note_of, note_line};
+ghost use Rattle.field_bounds.specs.declared.id.TxnId.{TxnId as Txn};
+ghost use Rattle.kept_records.specs.declared.record.Record.{Record};
+ghost use Rattle.kept_records.specs.Logs.{IsLog};
 ghost use Rattle.kept_records.specs.Keeping.{IsKept};
+ghost use Rattle.site_service.specs.Shortening.{KeepsHeldNotes};
+ghost use Rattle.site_service.specs.Shorter.{noted_if};
 ghost use Rattle.site_service.specs.Index.{IsIndexOf, IsBehind};
 ghost use Rattle.site_service.specs.Kept.{last_of, noted, TellsKey, kept_key_text, kept_key_words};
 ghost use Rattle.site_service.specs.Answers.{is_committed, NotesCommit};
 ghost use Rattle.site_step.specs.Site.{Applies};
 
 use crate::kept::KeptCommits;
+use crate::key_answer::KeyAnswer;
 use crate::keys::NotedKeys;
 use caller_keys::Key;
 use field_bounds::{Command, Entry, Reply, TxnId};
@@ -50,6 +56,62 @@ pub(crate) fn kept_with(
     }
 }
 
+// Notes a key anew for the transaction that was noted last with it, where its commit is held.
+fn note_held(
+    alloc: Global,
+    kept: &mut KeptCommits,
+    old: &NotedKeys,
+    log: &[u8],
+    key: Key<'_>,
+    noted: &mut NotedKeys,
+) -> Result<(), AllocError>
+    requires index { IsIndexOf kept.old log.now }
+    requires log { IsKept log.now }
+    ensures index { IsIndexOf kept.new log.now }
+    ensures noted { OnOk result ((found : Option Txn)
+        × TellsKey log.now old.now.last key.entry.bytes.now found
+        × ((other : List ℕ) → last_of noted.new.last other
+        ≡ noted_if noted.old.last key.entry.bytes.now found other)) }
+    ensures behind { OnOk result (IsBehind [] noted.old.lines noted.old.last
+        → IsBehind [] noted.new.lines noted.new.last) }
+{
+    let found = kept_with(alloc, kept, old, log, key)?;
+    match found {
+        Some(txn) => {
+            noted.draft(key, txn)?;
+            noted.keep_draft(key, txn);
+            Ok(())
+        }
+        None => Ok(()),
+    }
+}
+
+/// The keys whose commits are held, each with its last transaction. Their notes are lines that the
+/// log hasn't got, in the order in which the keys were first noted. The error is want of memory.
+/// Costs what `kept_with` costs for each key, and memory for those that stay.
+pub(crate) fn held_keys(
+    alloc: Global,
+    kept: &mut KeptCommits,
+    old: &NotedKeys,
+    log: &[u8],
+) -> Result<NotedKeys, AllocError>
+    requires index { IsIndexOf kept.old log.now }
+    requires log { IsKept log.now }
+    ensures index { IsIndexOf kept.new log.now }
+    ensures last { IfOk result (λ new. (rs : List Record) (rest : List ℕ) → IsLog log.now rs rest
+        → KeepsHeldNotes old.now.last new.last rs) }
+    ensures behind { IfOk result (λ new. IsBehind [] new.lines new.last) }
+{
+    let mut noted = NotedKeys::new(alloc);
+    'keys: for n in 0..old.count() {
+        let Some(key) = old.key_at(n) else {
+            return Err(AllocError);
+        };
+        note_held(alloc, kept, old, log, key, &mut noted)?;
+    }
+    Ok(noted)
+}
+
 // Adds a number.
 fn push_number(out: &mut Vec<u8>, number: u32) -> Result<(), AllocError>
     ensures ok { OnOk result (out.new.items ≡ out.old.items ++ decimal number) }
@@ -61,7 +123,8 @@ fn push_number(out: &mut Vec<u8>, number: u32) -> Result<(), AllocError>
 
 // Adds the transaction that is kept with a key. Where memory is refused a front may have been added.
 fn push_txn(out: &mut Vec<u8>, txn: TxnId) -> Result<(), AllocError>
-    ensures ok { OnOk result (out.new.items ≡ out.old.items ++ kept_key_words (Some txn)) }
+    ensures ok { OnOk result (out.new.items
+        ≡ out.old.items ++ kept_key_words (KeyAnswer.Kept txn)) }
     ensures err { OnErr result (take (length out.old.items) out.new.items ≡ out.old.items) }
 {
     out.extend_from_slice(b" -> ")?;
@@ -72,7 +135,7 @@ fn push_txn(out: &mut Vec<u8>, txn: TxnId) -> Result<(), AllocError>
 }
 
 // Adds the question for a key and its answer. Where memory is refused a front may have been added.
-fn push_kept(out: &mut Vec<u8>, key: Key<'_>, kept: Option<TxnId>) -> Result<(), AllocError>
+fn push_kept(out: &mut Vec<u8>, key: Key<'_>, kept: KeyAnswer) -> Result<(), AllocError>
     ensures ok { OnOk result (out.new.items
         ≡ out.old.items ++ (kept_key_text key.entry.bytes.now ++ kept_key_words kept)) }
     ensures err { OnErr result (take (length out.old.items) out.new.items ≡ out.old.items) }
@@ -80,8 +143,9 @@ fn push_kept(out: &mut Vec<u8>, key: Key<'_>, kept: Option<TxnId>) -> Result<(),
     out.extend_from_slice(b"kept key ")?;
     out.extend_from_slice(key.bytes)?;
     match kept {
-        Some(txn) => push_txn(out, txn),
-        None => out.extend_from_slice(b" -> no\n"),
+        KeyAnswer::Kept(txn) => push_txn(out, txn),
+        KeyAnswer::No => out.extend_from_slice(b" -> no\n"),
+        KeyAnswer::Forgotten => out.extend_from_slice(b" -> forgotten\n"),
     }
 }
 
@@ -89,7 +153,7 @@ fn push_kept(out: &mut Vec<u8>, key: Key<'_>, kept: Option<TxnId>) -> Result<(),
 pub(crate) fn add_kept_key(
     out: &mut Vec<u8>,
     key: Key<'_>,
-    kept: Option<TxnId>,
+    kept: KeyAnswer,
 ) -> Result<(), AllocError>
     ensures ok { OnOk result (out.new.items
         ≡ out.old.items ++ (kept_key_text key.entry.bytes.now ++ kept_key_words kept)) }

@@ -1,6 +1,7 @@
 //! Keys that were noted, and the lines of notes that a log hasn't got.
 
-ghost use Rattle.std.specs.Prelude.{◌≡◌, ◌<◌, ◌++◌, ℕ, true, List, [], take, OnOk, OnErr};
+ghost use Rattle.std.specs.Prelude.{◌≡◌, ◌<◌, ◌++◌, ℕ, true, List, [], take, length, slice_get, option_map, None, Some, IfSome, OnOk, OnErr};
+ghost use Rattle.caller_keys.specs.Tables.{stored_of};
 ghost use Rattle.caller_keys.specs.Keys.{IsNote, note_of, note_line};
 ghost use Rattle.site_service.specs.Kept.{last_of, noted};
 
@@ -40,6 +41,29 @@ impl NotedKeys {
             table,
             unlogged: Vec::new(alloc),
         }
+    }
+
+    /// None. Takes no memory.
+    pub(crate) fn new(alloc: Global) -> NotedKeys
+        ensures last { (key : List ℕ) → last_of result.last key ≡ None }
+        ensures none { result.lines ≡ [] }
+    {
+        NotedKeys::of_table(alloc, KeyTable::new(alloc))
+    }
+
+    /// How many keys were noted. Takes no memory.
+    pub(crate) fn count(&self) -> usize
+        ensures value { result ≡ length self.now.last }
+    {
+        self.table.count()
+    }
+
+    /// The key that n others were noted before, where more than n were. Takes no memory.
+    pub(crate) fn key_at(&self, n: usize) -> Option<Key<'_>>
+        ensures row { IfSome result (λ key. option_map (λ row. row.0) (slice_get self.now.last n)
+            ≡ Some (stored_of key.bytes.now)) }
+    {
+        self.table.key_at(n)
     }
 
     /// The transaction that was noted last with a key. Takes no memory.

@@ -33,13 +33,13 @@ fn lines_length(bytes: &[u8]) -> usize
 
 /// What a log holds: its whole lines, and whether a torn end stands behind them.
 #[derive(Drop)]
-struct HeldLines {
-    lines: Vec<u8>,
-    torn: bool,
+pub(crate) struct HeldLines {
+    pub(crate) lines: Vec<u8>,
+    pub(crate) torn: bool,
 }
 
 // Reads the whole lines of a log, which stays as it is.
-fn read_lines<F: LogFile>(alloc: Global, log: &mut F) -> Result<HeldLines, MediumFault>
+pub(crate) fn read_lines<F: LogFile>(alloc: Global, log: &mut F) -> Result<HeldLines, MediumFault>
     ensures lines { IfOk result (λ held. HoldsLines (F.bytes log.old) held.lines.items) }
     ensures all { IfOk result (λ held. held.torn ≡ false
         → IsCopyOf (F.bytes log.old) held.lines.items) }
@@ -86,7 +86,7 @@ fn make_safe<F: LogFile>(log: &mut F) -> Result<(), MediumFault>
 
 // Leaves in a log its whole lines alone, of so many bytes, and makes them safe. What was safe of them
 // still is, also at the fault.
-fn keep_lines<F: LogFile>(log: &mut F, whole: usize, torn: bool) -> Result<(), MediumFault>
+pub(crate) fn keep_lines<F: LogFile>(log: &mut F, whole: usize, torn: bool) -> Result<(), MediumFault>
     requires lines { HoldsWhole (F.bytes log.old) whole torn }
     ensures bytes { (held : List ℕ) → HoldsLines (F.bytes log.old) held
         → OnOk result (IsCopyOf (F.bytes log.new) held) }
@@ -101,7 +101,7 @@ fn keep_lines<F: LogFile>(log: &mut F, whole: usize, torn: bool) -> Result<(), M
 }
 
 // The keys that the notes of whole lines tell, and their records. The error is want of memory.
-fn split_lines(alloc: Global, lines: Vec<u8>) -> Result<(NotedKeys, Vec<u8>), AllocError>
+pub(crate) fn split_lines(alloc: Global, lines: Vec<u8>) -> Result<(NotedKeys, Vec<u8>), AllocError>
     requires whole { last_part lines.items ≡ [] }
     ensures is { IfOk result (λ parts. IsTextOf lines.items parts.0.last parts.1.items) }
     ensures none { IfOk result (λ parts. parts.0.lines ≡ []) }

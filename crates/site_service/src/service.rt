@@ -1,29 +1,37 @@
 //! A site over a log that follows its medium.
 
-ghost use Rattle.std.specs.Prelude.{◌≡◌, ◌<◌, [], true, length, List, ℕ, IfOk, IfErr, OnOk, OnErr, MatchResult};
+ghost use Rattle.std.specs.Prelude.{◌≡◌, ◌<◌, [], true, length, List, ℕ, None, IfOk, IfErr, OnOk, OnErr, MatchResult};
 ghost use Rattle.entry_text.specs.Lines.{max_line};
 ghost use Rattle.script_input.specs.Streams.{HasRefused};
 ghost use Rattle.file_medium.specs.Copies.{IsCopyOf};
-ghost use Rattle.site_service.specs.Answers.{LeavesAnswer};
+ghost use Rattle.site_service.specs.Behind.{IsOpenedBehind, TellsBadBehind};
+ghost use Rattle.site_service.specs.Answers.{LeavesAnswer, whole_of, site_of, held_of, held_in};
 ghost use Rattle.site_service.specs.Index.{IsFollowed};
-ghost use Rattle.site_service.specs.Kept.{TellsCommit, TellsKey};
+ghost use Rattle.site_service.specs.Kept.{AnswersCommit, AnswersKey, IsRightOf};
+ghost use Rattle.site_service.specs.LetGo.{IsTold, let_go_of, nothing_gone};
 ghost use Rattle.site_service.specs.Opening.{IsOpened, IsStarted, IsSafe, KeepsLines, SparesLines, TellsBadLine};
-ghost use Rattle.site_service.specs.Service.{IsWhole, Grows, AddsNotesFirst, IsSettled, KeepsLog, HasApplied, HasAnswered, LetsOut, HoldsBack};
+ghost use Rattle.site_service.specs.Service.{Grows, StandsOnHeld, AddsNotesFirst, IsSettled, KeepsLog, HasApplied, HasAnswered, LetsOut, HoldsBack};
 ghost use Rattle.site_service.specs.Serving.{CountsWrites};
 ghost use Rattle.site_service.specs.Traces.{trace_of, HasTold, HasKept};
 
+mod shortening;
+
 use crate::answering::{answer_line, carry_out};
+use crate::behind::open_behind;
 use crate::fault::ServeFault;
 use crate::following::{add_both, add_safely, let_out};
 use crate::kept::KeptCommits;
+use crate::key_answer::KeyAnswer;
 use crate::keyed::kept_with;
 use crate::keys::NotedKeys;
 use crate::opening::{OpenedLog, open_lines};
+use crate::telling::{commit_answer, key_answer};
 use caller_keys::Key;
 use field_bounds::{Command, Entry, Schema, SiteNo, TxnId};
 use file_medium::{FileFailed, LogFile};
 use history::GhostHistory;
 use kept_records::{Device, MemoryMedium};
+use log_head::{CommitAnswer, Gone};
 use script_input::Sink;
 use site_step::{OpenFault, Site};
 use std::alloc::{AllocError, Global};
@@ -37,18 +45,24 @@ use std::marker::Model;
 /// fails while the log is to follow, nothing is let out any more: what the file then has is seen by
 /// who opens the log anew.
 ///
-/// Contracts see the site and how many lines were answered; the text that waits; the bytes of the
-/// file, those that are safe, and the fewest that a cut of it has left, as far as it tells them; how
-/// many of the medium's bytes are settled; and whether the file has failed. At all times the safe bytes are the settled ones of
-/// the medium, and so are those of the file, unless it has failed. Costs memory for the log once,
-/// for the text that waits, and for the commits that were asked for: none for the records before,
-/// nor for the answers. Source: this project.
+/// The front of the log may be let go, up to a summary: the site stands on it as before, and the
+/// medium and the file hold what stays. What was let go is told by the log's head.
+///
+/// Contracts see the site, what was let go, and how many lines were answered; the text that waits;
+/// the bytes of the file, those that are safe, and the fewest that a cut of it has left, as far as it
+/// tells them; how many of the medium's bytes are settled; and whether the file has failed. At all
+/// times the safe bytes are the settled ones of the medium, with the notes of keys, and so are those
+/// of the file, unless it has failed. Costs memory for the log once, as far as it is held, for the
+/// text that waits, and for the commits that were asked for: none for the records before, nor for
+/// the answers. Source: this project.
 #[derive(Drop)]
 pub struct Service<F: LogFile> {
     site: Site<MemoryMedium, GhostHistory<Entry>>,
     schema: Schema,
     kept: KeptCommits,
     keys: NotedKeys,
+    // What was let go of the log, if ever anything was.
+    told: Option<Gone>,
     lines: u64,
     waiting: Vec<u8>,
     log: F,
@@ -62,12 +76,12 @@ impl<F: LogFile> Model for Service<F> {
 
     ghost Value = { ServiceValue };
 
-    ghost view = { λ s. value_of s.site s.keys.last s.lines s.waiting.items (F.bytes s.log)
-        (F.safe s.log) (F.least s.log) s.settled s.lost };
+    ghost view = { λ s. value_of s.site s.keys.last s.told s.lines s.waiting.items
+        (F.bytes s.log) (F.safe s.log) (F.least s.log) s.settled s.lost };
 
-    ghost invariant = { λ s. IsSoundService s.schema (value_of s.site s.keys.last s.lines
-        s.waiting.items (F.bytes s.log) (F.safe s.log) (F.least s.log) s.settled s.lost) s.kept
-        s.keys.lines };
+    ghost invariant = { λ s. IsSoundService s.schema s.site (value_of s.site s.keys.last s.told
+        s.lines s.waiting.items (F.bytes s.log) (F.safe s.log) (F.least s.log) s.settled s.lost)
+        s.kept s.keys.lines };
 }
 
 impl<F: LogFile + Drop> Service<F> {
@@ -119,25 +133,70 @@ impl<F: LogFile + Drop> Service<F> {
     {
         let mut log = log;
         match open_lines(alloc, &schema, number, &mut log) {
-            Ok(opened) => Service::start(alloc, schema, opened, log, trace),
+            Ok(opened) => Service::start(alloc, schema, opened, None, log, trace),
             Err(fault) => Err((fault, log)),
         }
     }
 
-    // Serves a site that was opened over what its log holds: restarts it, and settles that.
+    /// Opens the site of this number over a log of which this was let go, as its head tells, and
+    /// restarts it, as `open` does over one that is whole. The first of its records has to be a
+    /// summary which some lawful records may stand in front of, and is line 1; whichever records were
+    /// let go, the site answers as it would behind those. The faults are those of `open`, and what
+    /// each leaves; the costs too, and a look at each total of the first record for each field.
+    pub fn open_behind<T: LogFile>(
+        alloc: Global,
+        schema: Schema,
+        number: SiteNo,
+        told: Gone,
+        log: F,
+        trace: &mut T,
+    ) -> Result<Service<F>, (OpenFault, F)>
+        requires in_schema { number.0 < schema.sites }
+        ensures ok { IfOk result (IsOpenedBehind schema number told (F.bytes log)) }
+        ensures line { IfErr result (λ left. TellsBadBehind schema number (F.bytes log) left.0) }
+        ensures safe { MatchResult result
+            (λ made. KeepsLines (F.bytes log) (F.safe log) made.safe)
+            (λ left. KeepsLines (F.bytes log) (F.safe log) (F.safe left.1)) }
+        ensures least { MatchResult result
+            (λ made. SparesLines (F.bytes log) (F.least log) made.least)
+            (λ left. SparesLines (F.bytes log) (F.least log) (F.least left.1)) }
+        ensures same_bytes { IfErr result (λ left. (n : ℕ) → left.0 ≡ OpenFault.Line n
+            → F.bytes left.1 ≡ F.bytes log) }
+        ensures same_safe { IfErr result (λ left. (n : ℕ) → left.0 ≡ OpenFault.Line n
+            → F.safe left.1 ≡ F.safe log) }
+        ensures same_least { IfErr result (λ left. (n : ℕ) → left.0 ≡ OpenFault.Line n
+            → F.least left.1 ≡ F.least log) }
+        ensures told { IfOk result (λ made. HasTold (trace_of (T.bytes trace.old) (T.safe trace.old))
+            (trace_of (T.bytes trace.new) (T.safe trace.new)) made.waiting) }
+        ensures kept { OnErr result (HasKept (trace_of (T.bytes trace.old) (T.safe trace.old))
+            (trace_of (T.bytes trace.new) (T.safe trace.new)) []) }
+        ensures uncut { T.least trace.new ≡ T.least trace.old }
+    {
+        let mut log = log;
+        match open_behind(alloc, &schema, number, &mut log) {
+            Ok(opened) => Service::start(alloc, schema, opened, Some(told), log, trace),
+            Err(fault) => Err((fault, log)),
+        }
+    }
+
+    // Serves a site that was opened over what its log holds, of which this was let go: restarts it,
+    // and settles that.
     fn start<T: LogFile>(
         alloc: Global,
         schema: Schema,
         opened: OpenedLog,
+        told: Option<Gone>,
         log: F,
         trace: &mut T,
     ) -> Result<Service<F>, (OpenFault, F)>
         requires own { opened.site.schema ≡ schema }
-        requires whole { IsWhole opened.site }
+        requires stands { StandsOnHeld opened.site }
+        requires let_go { IsTold (let_go_of opened.site.gone told) }
         requires none { opened.keys.lines ≡ [] }
         requires text { IsFollowed (F.bytes log) (F.safe log) opened.keys.last
-            opened.site.bytes }
-        ensures ok { IfOk result (IsStarted opened.site opened.keys.last) }
+            (held_of opened.site) }
+        ensures ok { IfOk result (IsStarted (whole_of opened.site) opened.keys.last
+            (let_go_of opened.site.gone told)) }
         ensures line { IfErr result (λ left. (n : ℕ) → left.0 ≡ OpenFault.Line n → ⊥) }
         ensures safe { (held : List ℕ) → IsCopyOf (F.bytes log) held → IsCopyOf (F.safe log) held
             → MatchResult result (λ made. IsSafe made.safe held)
@@ -157,6 +216,7 @@ impl<F: LogFile + Drop> Service<F> {
             schema,
             kept: KeptCommits::new(alloc),
             keys,
+            told,
             lines: 0,
             waiting: Vec::new(alloc),
             log,
@@ -182,8 +242,8 @@ impl<F: LogFile + Drop> Service<F> {
 impl<F: LogFile> Service<F> {
     /// The site, to be looked at. Costs no memory.
     pub fn site(&self) -> &Site<MemoryMedium, GhostHistory<Entry>>
-        ensures value { result.now ≡ self.now.served.site }
-        ensures whole { result.now.gone ≡ [] }
+        ensures value { result.now ≡ site_of self.now.served }
+        ensures whole { self.now.served.let_go.told ≡ None → result.now.gone ≡ [] }
     {
         &self.site
     }
@@ -197,33 +257,42 @@ impl<F: LogFile> Service<F> {
 
     /// Whether the commit of a transaction is in the log: so a client finds out whose answer didn't
     /// come. Where it is yes, the commit is safe once the log is settled, as before any answer is
-    /// let out. The error is want of memory. Costs a look-up, a step for each doubling of the number
-    /// of commits; and for each record that came since the last question, or since the opening, a
-    /// look at it, and for a commit 8 bytes, with room made by doubling: more where it stands behind
-    /// the commit of a later transaction.
-    pub fn has_kept(&mut self, alloc: Global, txn: TxnId) -> Result<bool, AllocError>
-        ensures kept { IfOk result (TellsCommit self.old.served.site.bytes txn) }
+    /// let out. Where nothing was let go it is yes or no. Else it is yes where the commit is among
+    /// the records that are held, and else no, or forgotten where it may be among those that were
+    /// let go. The error is want of memory. Costs a look-up, a step for each doubling of the number
+    /// of commits; and for each record that came since the last question, since the opening, or
+    /// since the log was shortened, a look at it, and for a commit 8 bytes, with room made by
+    /// doubling: more where it stands behind the commit of a later transaction.
+    pub fn has_kept(&mut self, alloc: Global, txn: TxnId) -> Result<CommitAnswer, AllocError>
+        ensures kept { IfOk result (AnswersCommit (held_in self.old.served)
+            self.old.served.let_go.told txn) }
+
+        // It is right of all records of the log, those that were let go too.
+        ensures right { IfOk result (IsRightOf self.old.served.site.bytes txn) }
         ensures same { self.new ≡ self.old }
     {
-        self.kept.holds(alloc, self.site.medium().bytes(), txn)
+        let is_held = self.kept.holds(alloc, self.site.medium().bytes(), txn)?;
+        Ok(commit_answer(&self.told, txn, is_held))
     }
 
     /// The transaction whose commit is in the log with this key, where one is: so a client finds out
     /// whose answer didn't come, and that no other commit with the key will be carried out. It is
-    /// that of the last note of the key, and is safe as for `has_kept`. The error is want of memory.
-    /// Costs a look-up of the key, and what `has_kept` costs.
-    pub fn kept_key(&mut self, alloc: Global, key: Key<'_>) -> Result<Option<TxnId>, AllocError>
-        ensures kept { IfOk result (TellsKey self.old.served.site.bytes self.old.served.last
-            key.entry.bytes.now) }
+    /// that of the last note of the key, and is safe as for `has_kept`. Where none is among the
+    /// records that are held it is no, or forgotten where any were let go. The error is want of
+    /// memory. Costs a look-up of the key, and what `has_kept` costs.
+    pub fn kept_key(&mut self, alloc: Global, key: Key<'_>) -> Result<KeyAnswer, AllocError>
+        ensures kept { IfOk result (AnswersKey (held_in self.old.served)
+            self.old.served.let_go.told self.old.served.last key.entry.bytes.now) }
         ensures same { self.new ≡ self.old }
     {
-        kept_with(
+        let found = kept_with(
             alloc,
             &mut self.kept,
             &self.keys,
             self.site.medium().bytes(),
             key,
-        )
+        )?;
+        Ok(key_answer(&self.told, found))
     }
 
     /// Carries out a command; the line of its entry waits. Where memory is refused no answer waits;
@@ -236,6 +305,7 @@ impl<F: LogFile> Service<F> {
         // Nothing of the site or of the keys is lost, also where memory is refused.
         ensures grows { Grows self.old.served.site self.new.served.site }
         ensures last { self.new.served.last ≡ self.old.served.last }
+        ensures let_go { self.new.served.let_go ≡ self.old.served.let_go }
         ensures log { KeepsLog self.old self.new }
     {
         carry_out(
@@ -265,6 +335,7 @@ impl<F: LogFile> Service<F> {
 
         // Nothing of the site is lost, also where memory is refused.
         ensures grows { Grows self.old.served.site self.new.served.site }
+        ensures let_go { self.new.served.let_go ≡ self.old.served.let_go }
         ensures log { KeepsLog self.old self.new }
     {
         self.lines = self.lines.wrapping_add(1);
@@ -274,6 +345,7 @@ impl<F: LogFile> Service<F> {
             &self.schema,
             &mut self.kept,
             &mut self.keys,
+            &self.told,
             &mut self.waiting,
             self.lines,
             line,
@@ -354,7 +426,7 @@ impl<F: LogFile> Service<F> {
         // What the log gets are lines of notes, and the records behind them: so no front of that has
         // a record without its note.
         ensures order { (text : List ℕ) → IsCopyOf self.old.log text → OnOk result (AddsNotesFirst
-            self.new.log text self.old.settled self.old.served.site.bytes) }
+            self.new.log text self.old.settled (held_in self.old.served)) }
 
         // A text that the log held, all safe, stands in it still, and maybe more behind it.
         ensures front { (text : List ℕ) → IsCopyOf self.old.log text → IsCopyOf self.old.safe text

@@ -150,7 +150,7 @@ const FIRST: TxnId = TxnId {
 fn knows_each<F: LogFile>(alloc: Global, service: &mut Service<F>) -> [bool; 4] {
     [
         service.site().share(STOCK) == Some((0, 50)),
-        service.has_kept(alloc, FIRST) == Ok(true),
+        service.has_kept(alloc, FIRST) == Ok(CommitAnswer::Yes),
         service.settle() == Ok(()),
         !service.is_lost(),
     ]

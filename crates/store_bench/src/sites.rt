@@ -9,7 +9,7 @@ use field_bounds::{Command, FieldNo, Kind as Side, Reply, Schema, SiteNo, Statem
 use file_medium::{LogFile, MemoryFile};
 use log_stand::stand_of;
 use site_handle::Session;
-use site_service::{NoTrace, Service, Watched, serve};
+use site_service::{CommitAnswer, NoTrace, Service, Watched, serve};
 use std::alloc::{AllocError, Global};
 use std::io;
 use std::io::Read;
@@ -206,7 +206,7 @@ fn start(alloc: Global, digest: &mut Digest, plan: Plan, log: &[u8]) -> Result<(
     };
     for number in [1, 1_000, 1_000_000_000] {
         let kept = service.has_kept(alloc, TxnId { epoch: 1, number })?;
-        digest.take_number(u64::from(kept));
+        digest.take_number(u64::from(kept == CommitAnswer::Yes));
     }
     take_in(digest, &service);
     Ok(())

@@ -64,8 +64,12 @@ fn assert_kept<F: LogFile>(
 ) {
     for (epoch, number) in ASKED {
         let kept = service.has_kept(alloc, TxnId { epoch, number });
-        let is_wanted = wanted.contains(&(epoch, number));
-        assert_eq!(rt; kept, Ok(is_wanted), "at {epoch}.{number}");
+        let wanted = if wanted.contains(&(epoch, number)) {
+            CommitAnswer::Yes
+        } else {
+            CommitAnswer::No
+        };
+        assert_eq!(rt; kept, Ok(wanted), "at {epoch}.{number}");
     }
 }
 

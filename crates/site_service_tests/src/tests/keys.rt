@@ -280,7 +280,7 @@ fn keys_of<F: LogFile>(
     rt: &impl Abort,
     alloc: Global,
     service: &mut Service<F>,
-) -> [Result<Option<TxnId>, AllocError>; 2] {
+) -> [Result<KeyAnswer, AllocError>; 2] {
     let known = read_key(b"order-1").expect(rt, "a key");
     let other = read_key(b"order-2").expect(rt, "a key");
     [
@@ -295,6 +295,6 @@ fn the_call_tells_the_same(rt: HostRuntime) {
     let mut service = open_over(&rt, rt.alloc(), file).expect(&rt, "opened");
     assert_eq!(rt;
         keys_of(&rt, rt.alloc(), &mut service),
-        [Ok(Some(FIRST)), Ok(None)]
+        [Ok(KeyAnswer::Kept(FIRST)), Ok(KeyAnswer::No)]
     );
 }

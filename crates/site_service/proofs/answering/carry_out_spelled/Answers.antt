@@ -1,11 +1,11 @@
 use Rattle.std.proofs.Common.{inl}
 use Rattle.std.proofs.lemmas.Result.{on_ok_weaker}
-use Rattle.site_service.proofs.Whole.{grows_by, grows_same}
+use Rattle.site_service.proofs.Held.{goes_by, goes_same}
 use Rattle.site_service.proofs.Told.{told_entry, left_entry, any_err}
 use Rattle.site_service.proofs.answering.carry_out_spelled.Goals as goal
 
 pub returns-in_err-reply-clause-grows : goal.returns-in_err-reply-clause-grows
-returns-in_err-reply-clause-grows c = λ whole. grows_same c.args.site.now c.apply.new.self c.in_err-reply.ensures.err whole
+returns-in_err-reply-clause-grows c = λ stands. goes_same c.args.site.now c.apply.new.self c.in_err-reply.ensures.err stands
 
 pub returns-in_err-reply-clause-left : goal.returns-in_err-reply-clause-left
 returns-in_err-reply-clause-left c = any_err _ _ (inl c.in_err-reply.ensures.err)
@@ -23,5 +23,5 @@ returns-clause-left c =
     c.in_ok-reply.reply c.in_ok-reply.ensures.ok)
 
 pub returns-clause-grows : goal.returns-clause-grows
-returns-clause-grows c = λ whole.
-    grows_by c.args.site.now c.apply.new.self c.args.command c.in_ok-reply.reply c.in_ok-reply.ensures.ok whole
+returns-clause-grows c = λ stands.
+    goes_by c.args.site.now c.apply.new.self c.args.command c.in_ok-reply.reply c.in_ok-reply.ensures.ok stands

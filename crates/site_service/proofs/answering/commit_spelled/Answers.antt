@@ -3,7 +3,7 @@ use Rattle.std.proofs.lemmas.Result.{on_ok_weaker}
 use Rattle.field_bounds.specs.declared.id.SiteNo.{SiteNo}
 use Rattle.field_bounds.specs.declared.entry.Command.TheVariants.{Commit}
 use Rattle.entry_text.specs.Spelling.{command_text}
-use Rattle.site_service.proofs.Whole.{grows_by, grows_same}
+use Rattle.site_service.proofs.Held.{goes_by, goes_same}
 use Rattle.site_service.proofs.Told.{commits_with, any_err}
 use Rattle.site_service.proofs.answering.commit_spelled.Goals as goal
 
@@ -17,7 +17,7 @@ pub returns-in_err-reply-clause-left : goal.returns-in_err-reply-clause-left
 returns-in_err-reply-clause-left c = any_err _ _ (inl (c.in_err-reply.ensures.err, c.in_err-reply.ensures.same))
 
 pub returns-in_err-reply-clause-grows : goal.returns-in_err-reply-clause-grows
-returns-in_err-reply-clause-grows c = λ whole. grows_same c.args.site.now c.commit_and_note.new.site c.in_err-reply.ensures.err whole
+returns-in_err-reply-clause-grows c = λ stands. goes_same c.args.site.now c.commit_and_note.new.site c.in_err-reply.ensures.err stands
 
 pub returns-clause-ok : goal.returns-clause-ok
 returns-clause-ok c =
@@ -41,5 +41,5 @@ returns-clause-left c =
     ))
 
 pub returns-clause-grows : goal.returns-clause-grows
-returns-clause-grows c = λ whole.
-    grows_by c.args.site.now c.commit_and_note.new.site (Commit c.args.txn) c.in_ok-reply.reply c.in_ok-reply.ensures.ok whole
+returns-clause-grows c = λ stands.
+    goes_by c.args.site.now c.commit_and_note.new.site (Commit c.args.txn) c.in_ok-reply.reply c.in_ok-reply.ensures.ok stands

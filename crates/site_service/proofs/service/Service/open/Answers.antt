@@ -1,24 +1,36 @@
-use Rattle.std.proofs.Common.{[], refl, sym, subst}
+use Rattle.std.proofs.Common.{◌≡◌, true, Bool, List, [], None, refl, sym, ap, ◌∙◌, subst}
+use Rattle.field_bounds.specs.declared.id.TxnId.{TxnId}
+use Rattle.kept_records.specs.declared.record.Record.{Record}
+use Rattle.site_service.specs.Commits.{has_commit}
+use Rattle.site_service.specs.LetGo.{let_go_of, may_be_gone}
+use Rattle.site_service.specs.Answers.{whole_of}
+use Rattle.site_service.specs.Service.{IsTextOf}
 use Rattle.std.proofs.lemmas.Result.{IfOk-weaker, IfErr-weaker, MatchResult-weaker}
-use Rattle.site_service.specs.Opening.{SparesLines}
+use Rattle.site_service.specs.Opening.{SparesLines, IsStarted}
 use Rattle.site_service.specs.Traces.{trace_of}
 use Rattle.site_service.proofs.Tracing.{told_none, kept_of}
 use Rattle.site_service.proofs.KeyedTexts.{whole_lines_are}
 use Rattle.site_service.proofs.Links.{is_opened, names_not}
 use Rattle.site_service.proofs.Starts.{keeps_all}
+use Rattle.site_service.proofs.Held.{stands_whole, held_all, opens_whole}
 use Rattle.site_service.proofs.service.Service.open.Goals as goal
+
+-- where none is gone, none of them is a commit
+none_has : (gone : List Record) (txn : TxnId) → gone ≡ [] → has_commit txn gone ≡ true → may_be_gone None txn ≡ true
+none_has gone txn none has = sym (ap (has_commit txn) none) ∙ has
 
 pub start-requires : goal.start-requires
 start-requires g c =
     let lines = c.in-Ok.ensures.lines in
     record {
       own = c.in-Ok.ensures.opens.schema;
-      whole = c.in-Ok.ensures.whole;
+      stands = stands_whole c.in-Ok.opened.site c.in-Ok.ensures.whole;
+      let_go = record { none = λ told. c.in-Ok.ensures.whole.held; horizon = λ txn has. none_has c.in-Ok.opened.site.gone txn c.in-Ok.ensures.whole.held has };
       none = c.in-Ok.ensures.none;
       text = record {
         text = lines.0;
         lines = whole_lines_are lines.0 lines.1.lines.lines.whole;
-        is = lines.1.is;
+        is = subst (IsTextOf lines.0 c.in-Ok.opened.keys.last) (sym (held_all c.in-Ok.opened.site c.in-Ok.ensures.whole.held)) lines.1.is;
         log = lines.2;
         safe = lines.3;
       };
@@ -33,8 +45,11 @@ returns-in-Ok g c =
     let holds = lines.1.lines in
     let spared = c.in-Ok.ensures.least in
     record {
-      ok = IfOk-weaker r _ _ (λ made started. is_opened c.args.schema c.args.number known lines.0 c.in-Ok.opened.keys.last c.in-Ok.opened.site made
-          lines.1 c.in-Ok.ensures.opens started) c.start.ensures.ok;
+      ok = IfOk-weaker r _ _ (λ made started. is_opened c.args.schema c.args.number known lines.0 c.in-Ok.opened.keys.last
+          (whole_of c.in-Ok.opened.site) made lines.1
+          (opens_whole c.args.schema c.args.number c.in-Ok.opened.site.bytes 0 c.in-Ok.opened.site c.in-Ok.ensures.opens)
+          (subst (λ (gone : List Record). IsStarted (whole_of c.in-Ok.opened.site) c.in-Ok.opened.keys.last (let_go_of gone None) made)
+          c.in-Ok.ensures.whole.held started)) c.start.ensures.ok;
       line = IfErr-weaker r _ _ (λ left none. names_not c.args.schema c.args.number known left.0 none) c.start.ensures.line;
       safe = MatchResult-weaker r (c.start.ensures.safe lines.0 lines.2 lines.3) (λ made safe. keeps_all known was made.safe lines.0 holds safe)
           (λ left safe. keeps_all known was (g.F.LogFile.safe left.1) lines.0 holds safe);

@@ -1,19 +1,20 @@
 use Rattle.std.proofs.Common.{length, refl, sym, ap, subst, ◌∙◌}
+use Rattle.site_service.specs.Answers.{held_of}
 use Rattle.site_service.specs.Opening.{IsSafe}
 use Rattle.site_service.proofs.Links.{sound_opened, is_started, copy_safe}
-use Rattle.site_step.proofs.Prefixes.{held_whole}
+use Rattle.site_service.proofs.Held.{held_medium}
 use Rattle.site_service.proofs.service.Service.start.Goals as goal
 
 pub invariant_of-service : goal.invariant_of-service
 invariant_of-service g c =
-    sound_opened c.args.schema c.args.opened.site c.args.opened.keys.last 0 c.new-2.result.items (g.F.LogFile.bytes c.args.log)
+    sound_opened c.args.schema c.args.opened.site c.args.opened.keys.last c.args.told 0 c.new-2.result.items (g.F.LogFile.bytes c.args.log)
     (g.F.LogFile.safe c.args.log) (g.F.LogFile.least c.args.log) (length c.bytes-settled.result.now) c.new.result c.args.opened.keys.lines
-    c.requires.own c.requires.whole (ap length (c.bytes-settled.ensures.bytes ∙ held_whole c.args.opened.site c.requires.whole.held c.medium.ensures.bytes)) c.requires.text
-    (c.new.ensures.none c.args.opened.site.bytes) c.requires.none
+    c.requires.own c.requires.stands c.requires.let_go (ap length (c.bytes-settled.ensures.bytes ∙ held_medium c.args.opened.site c.medium.ensures.bytes)) c.requires.text
+    (c.new.ensures.none (held_of c.args.opened.site)) c.requires.none
 
 pub returns-in-Ok : goal.returns-in-Ok
 returns-in-Ok g c = record {
-  ok = is_started c.args.opened.site c.args.opened.keys.last _ _ _ _ _ _ _ c.restart.new.self refl c.new-2.ensures.items c.in-Ok.ensures.ok
+  ok = is_started c.args.opened.site c.args.opened.keys.last c.args.told _ _ _ _ _ _ _ c.restart.new.self refl c.new-2.ensures.items c.in-Ok.ensures.ok
       c.in-Ok.ensures.settled;
   line = tt;
   safe = λ held log safe. c.in-Ok.ensures.front held log safe;

@@ -1,0 +1,72 @@
+-- What a service lets go of its log, and what it tells of it (this project).
+use Rattle.std.specs.Prelude.{◌≡◌, ◌⊎◌, ℕ, ◌+◌, Bool, true, false, List, [], ◌∷◌, ◌++◌, length, reverse, slice_get, Option, None, Some}
+use Rattle.std.specs.List.{flat_map, list_any}
+use Rattle.field_bounds.specs.declared.id.TxnId.{TxnId}
+use Rattle.field_bounds.specs.Effects.{open_txns}
+use Rattle.kept_records.specs.declared.record.Record.{Record}
+use Rattle.kept_records.specs.Text.{text}
+use Rattle.kept_records.specs.Logs.{IsLog}
+use Rattle.kept_records.specs.Stands.{plain}
+use Rattle.kept_records.specs.Summary.{SummaryValue, summary_record}
+use Rattle.site_step.specs.Site.{here}
+use Rattle.log_head.specs.declared.gone.Gone.{Gone}
+use Rattle.log_head.specs.Horizons.{is_passed}
+use Rattle.site_service.specs.Commits.{has_commit}
+use Rattle.site_service.specs.LetGo.{LetGo, let_go_of, may_be_gone}
+use Rattle.site_service.specs.Kept.{LastNotes, last_of, if_committed, TellsCommit}
+use Rattle.site_service.specs.Answers.{Served, site_of, held_in}
+use Rattle.site_service.specs.Service.{HoldsText}
+
+-- How many bytes, and how many records without summaries, were let go by what is told.
+abbrev pub bytes_told : Option Gone → ℕ
+bytes_told None = 0
+bytes_told (Some gone) = gone.bytes
+
+abbrev pub records_told : Option Gone → ℕ
+records_told None = 0
+records_told (Some gone) = gone.records
+
+-- What is told once these records more were let go: they are counted; each transaction may be gone that might have been before, and each
+-- whose commit is among them.
+pub record TellsMore (old : Option Gone) (new : Gone) (more : List Record) : Type 0 where
+  pub bytes : new.bytes ≡ bytes_told old + length (flat_map text more)
+  pub records : new.records ≡ records_told old + length (plain more)
+  pub further : (txn : TxnId) → may_be_gone old txn ≡ true → is_passed new.horizon txn ≡ true
+  pub commits : (txn : TxnId) → has_commit txn more ≡ true → is_passed new.horizon txn ≡ true
+
+-- Of each key stays what was noted last with it, where its commit is among these records; of another key nothing is noted any more.
+abbrev pub KeepsHeldNotes : LastNotes → LastNotes → List Record → Type 0
+KeepsHeldNotes old new held = (key : List ℕ) → last_of new key ≡ if_committed held (last_of old key)
+
+-- The same site is served, and these records more were let go, the first of those that were held; a summary is the first that is held
+-- still. Of keys those stay noted whose commits are held.
+pub record HasLetGo (old new : Served) : Type 0 where
+  pub site : new.site ≡ old.site
+  pub lines : new.lines ≡ old.lines
+  pub more : List Record
+  pub base : SummaryValue
+  pub behind : List Record
+  pub held : IsLog (held_in old) (more ++ summary_record base ∷ behind) []
+  pub last : KeepsHeldNotes old.last new.last (summary_record base ∷ behind)
+  pub told : Gone
+  pub let_go_is : new.let_go ≡ let_go_of (old.let_go.gone ++ more) (Some told)
+  pub tells : TellsMore old.let_go.told told more
+
+-- Nothing has changed, or more was let go.
+abbrev pub MayLetGo : Served → Served → Type 0
+MayLetGo old new = (new ≡ old) ⊎ HasLetGo old new
+
+-- By this test no transaction may be gone that is open, has no commit among the records that are held, and couldn't be gone before.
+abbrev pub SparesOpenBy : Served → (TxnId → Bool) → Type 0
+SparesOpenBy old is_gone =
+    (n : ℕ) (txn : TxnId) → slice_get (reverse (open_txns (here (site_of old)).effects)) n ≡ Some txn → TellsCommit (held_in old) txn false
+    → may_be_gone old.let_go.told txn ≡ false → is_gone txn ≡ false
+
+-- So it is by what is told.
+abbrev pub SparesOpen : Served → Served → Type 0
+SparesOpen old new = SparesOpenBy old (may_be_gone new.let_go.told)
+
+-- It isn't known which log a stop of the machine leaves: that of this site, or a shorter one; each is whole.
+abbrev pub LeavesEither : Served → Option (List ℕ) → Type 0
+LeavesEither old safe =
+    HoldsText safe old.last (held_in old) ⊎ ((later : Served) × HasLetGo old later × HoldsText safe later.last (held_in later))

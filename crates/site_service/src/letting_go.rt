@@ -1,0 +1,131 @@
+//! What is told of a log once more of it was let go.
+
+ghost use Rattle.std.specs.Prelude.{◌≡◌, ℕ, ◌+◌, true, List, Option, IfOk, IfSome};
+ghost use Rattle.field_bounds.specs.declared.id.TxnId.{TxnId as Txn};
+ghost use Rattle.kept_records.specs.Keeping.{IsKept};
+ghost use Rattle.log_head.specs.Horizons.{is_up_to};
+ghost use Rattle.site_service.specs.Index.{IsIndexOf};
+ghost use Rattle.site_service.specs.LetGo.{may_be_gone};
+ghost use Rattle.site_service.specs.Shortening.{bytes_told, records_told};
+ghost use Rattle.site_service.specs.Shorter.{ListsIf};
+
+use crate::kept::KeptCommits;
+use field_bounds::TxnId;
+use log_head::Gone;
+use std::alloc::{AllocError, Global};
+
+/// The transaction in front of the first one that a site begins.
+const FIRST: TxnId = TxnId {
+    epoch: 1,
+    number: 0,
+};
+
+/// Whether the commit of a transaction may be among what was let go, by what is told. Costs what
+/// `Horizon::has_passed` costs.
+fn may_be_gone(told: &Option<Gone>, txn: TxnId) -> bool
+    ensures { result ≡ may_be_gone told.now txn }
+{
+    match told {
+        Some(gone) => gone.horizon.has_passed(txn),
+        None => false,
+    }
+}
+
+// How many bytes were let go by what is told.
+fn bytes_told(told: &Option<Gone>) -> u64
+    ensures { result ≡ bytes_told told.now }
+{
+    match told {
+        Some(gone) => gone.bytes,
+        None => 0,
+    }
+}
+
+// How many records without summaries were let go by what is told.
+fn records_told(told: &Option<Gone>) -> u64
+    ensures { result ≡ records_told told.now }
+{
+    match told {
+        Some(gone) => gone.records,
+        None => 0,
+    }
+}
+
+/// How many bytes, and how many records without summaries, were let go, with so many more; None
+/// where that is no number of 64 bits.
+pub(crate) fn counted(told: &Option<Gone>, bytes: u64, records: u64) -> Option<(u64, u64)>
+    ensures bytes { IfSome result (λ counts. counts.0 ≡ bytes_told told.now + bytes) }
+    ensures records { IfSome result (λ counts. counts.1 ≡ records_told told.now + records) }
+{
+    let bytes = bytes_told(told).checked_add(bytes)?;
+    let records = records_told(told).checked_add(records)?;
+    Some((bytes, records))
+}
+
+// Whether a transaction is of an earlier epoch than another, or of its epoch with a number up to its
+// own.
+fn is_up_to(latest: TxnId, txn: TxnId) -> bool
+    ensures { result ≡ is_up_to latest txn }
+{
+    txn.epoch < latest.epoch || (txn.epoch == latest.epoch && txn.number <= latest.number)
+}
+
+// The later of two transactions.
+#[tactic(auto, using(crate::proofs::Spares::up_trans, crate::proofs::Spares::up_other))]
+fn later_of(a: TxnId, b: TxnId) -> TxnId
+    ensures first { (txn : Txn) → is_up_to a txn ≡ true → is_up_to result txn ≡ true }
+    ensures second { (txn : Txn) → is_up_to b txn ≡ true → is_up_to result txn ≡ true }
+{
+    if is_up_to(a, b) { a } else { b }
+}
+
+/// Up to which transaction the commits may go that are let go, by what is told, where those that go
+/// now go up to this one: it is of epoch 1 or a later one.
+#[tactic(auto, using(crate::proofs::Spares::passed_up))]
+pub(crate) fn reached(told: &Option<Gone>, latest: TxnId) -> TxnId
+    ensures latest { (txn : Txn) → is_up_to latest txn ≡ true → is_up_to result txn ≡ true }
+    ensures told { (txn : Txn) → may_be_gone told.now txn ≡ true → is_up_to result txn ≡ true }
+{
+    let latest = later_of(FIRST, latest);
+    match told {
+        Some(gone) => {
+            let before = TxnId {
+                epoch: gone.horizon.epoch(),
+                number: gone.horizon.number(),
+            };
+            later_of(latest, before)
+        }
+        None => latest,
+    }
+}
+
+/// Lists an open transaction, where a horizon up to this one would tell it as gone, which it wasn't
+/// before, and no commit of it is held. False where it would have to be listed and can't.
+#[tactic(auto, using(crate::proofs::Spares::gone_before, crate::proofs::Spares::not_reached, crate::proofs::Spares::held_still, crate::proofs::Spares::lists_more))]
+pub(crate) fn list_open(
+    alloc: Global,
+    kept: &mut KeptCommits,
+    log: &[u8],
+    told: &Option<Gone>,
+    last: TxnId,
+    listed: &mut Vec<u32>,
+    txn: TxnId,
+) -> Result<bool, AllocError>
+    requires index { IsIndexOf kept.old log.now }
+    requires log { IsKept log.now }
+    ensures index { IsIndexOf kept.new log.now }
+    ensures lists { IfOk result (ListsIf log.now told.now last listed.old.items listed.new.items
+        txn) }
+{
+    if may_be_gone(told, txn) || !is_up_to(last, txn) {
+        return Ok(true);
+    }
+    if kept.holds(alloc, log, txn)? {
+        return Ok(true);
+    }
+    if txn.epoch != last.epoch {
+        return Ok(false);
+    }
+    listed.push(txn.number)?;
+    Ok(true)
+}
