@@ -10,8 +10,7 @@ use Rattle.log_head.specs.declared.horizon.CommitAnswer.{CommitAnswer}
 use Rattle.log_head.specs.declared.horizon.CommitAnswer.TheVariants.{Yes, No, Forgotten}
 use Rattle.log_head.specs.Horizons.{HorizonValue, is_passed, answer_of, IsRight}
 use Rattle.site_step.specs.Site.{SiteValue}
-use Rattle.site_service.specs.Commits.{is_commit_of, has_commit}
-use Rattle.site_service.specs.Answers.{held_of}
+use Rattle.site_step.specs.Shortening.{held_of, is_commit_of, has_commit}
 use Rattle.site_service.specs.LetGo.{IsTold, let_go_of, commit_answer, may_be_gone}
 use Rattle.site_service.specs.Kept.{TellsCommit, IsRightOf}
 use Rattle.site_service.specs.Service.{StandsOnHeld}

@@ -15,7 +15,7 @@ use Rattle.kept_records.specs.Keeping.{IsKept}
 use Rattle.kept_records.proofs.Cursors.{next_in}
 use Rattle.kept_state.specs.Keeps.{adds}
 use Rattle.site_step.specs.Site.{SiteValue, here, Holds, Logs, IsExact, Finds, Applies, Opens}
-use Rattle.site_service.specs.Answers.{held_of}
+use Rattle.site_step.specs.Shortening.{held_of}
 use Rattle.site_step.proofs.Lasting.{call_is_sure, call_stays}
 use Rattle.site_step.proofs.Lines.{all_stay}
 use Rattle.site_step.proofs.Prefixes.{without_gone}

@@ -15,7 +15,7 @@ use Rattle.kept_records.proofs.Lines.{same_log}
 use Rattle.kept_records.proofs.Appending.{added}
 use Rattle.kept_records.proofs.Cursors.{kept_behind}
 use Rattle.site_service.specs.declared.kept.KeptCommits.{KeptCommits}
-use Rattle.site_service.specs.Commits.{is_commit_of, has_commit}
+use Rattle.site_step.specs.Shortening.{is_commit_of, has_commit}
 use Rattle.site_service.specs.Kept.{TellsCommit}
 use Rattle.site_service.specs.Index.{IsIndexOf}
 

@@ -9,7 +9,7 @@ use Rattle.field_bounds.specs.declared.entry.Command.TheVariants.{Restart}
 use Rattle.kept_records.specs.declared.medium.MediumFault.{MediumFault}
 use Rattle.kept_records.specs.declared.medium.MediumFault.TheVariants as medium_faults
 use Rattle.site_step.specs.Site.{SiteValue, Opens}
-use Rattle.site_service.specs.Answers.{held_of}
+use Rattle.site_step.specs.Shortening.{held_of}
 use Rattle.log_head.specs.declared.gone.Gone.{Gone}
 use Rattle.site_step.specs.Opening.{TellsLine, SparesLogs, fault_of}
 use Rattle.site_step.specs.declared.site.opening.OpenFault.{OpenFault}

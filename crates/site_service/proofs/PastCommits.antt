@@ -15,7 +15,7 @@ use Rattle.kept_records.specs.Stands.{own_in, given_in}
 use Rattle.log_bases.specs.Bases.{given_told, accepted_told}
 use Rattle.log_bases.specs.Pasts.{commit_of, gift_of, accept_of, tighten_of, short_of_gifts, short_of_accepts, turned, one_gift, one_accept, accept_by, give_by, next, moved, wanted, to_kind, given_up, field_past, fields_past, restarted, past_of}
 use Rattle.log_head.specs.Horizons.{HorizonValue, is_passed}
-use Rattle.site_service.specs.Commits.{is_commit_of, has_commit}
+use Rattle.site_step.specs.Shortening.{is_commit_of, has_commit}
 
 -- if it is a commit, of epoch 0
 abbrev IsEarly : Record → Type 0

@@ -16,13 +16,12 @@ use Rattle.log_head.specs.declared.gone.Gone.{Gone}
 use Rattle.site_step.specs.Site.{SiteValue}
 use Rattle.site_service.specs.declared.kept.KeptCommits.{KeptCommits}
 use Rattle.site_service.specs.declared.service.shortening.Shorter.{Shorter}
-use Rattle.site_service.specs.Commits.{is_commit_of, has_commit}
 use Rattle.site_service.specs.LetGo.{IsTold, let_go_of, may_be_gone}
 use Rattle.site_service.specs.Kept.{LastNotes, last_of}
-use Rattle.site_service.specs.Answers.{Served, served_of, whole_of, held_of, held_in}
+use Rattle.site_service.specs.Answers.{Served, served_of, whole_of, held_in}
 use Rattle.site_service.specs.Service.{ServiceValue, value_of, StandsOnHeld, IsTextOf, HoldsText, IsSettled}
 use Rattle.site_service.specs.Index.{IsIndexOf, IsSoundService}
-use Rattle.site_service.specs.Plan.{ShorteningValue, IsShortening}
+use Rattle.site_step.specs.Shortening.{ShorteningValue, IsShortening, held_of, is_commit_of, has_commit}
 use Rattle.site_service.specs.Shortening.{HasLetGo, MayLetGo, SparesOpen, LeavesEither}
 use Rattle.site_service.specs.Shorter.{IsShorter}
 use Rattle.site_service.proofs.KeyedTexts.{keyed_more, lines_more}

@@ -7,11 +7,12 @@ use Rattle.field_bounds.specs.declared.id.TxnId.{TxnId}
 use Rattle.kept_records.specs.declared.record.Record.{Record}
 use Rattle.kept_records.specs.Keeping.{IsKept}
 use Rattle.log_head.specs.declared.gone.Gone.{Gone}
-use Rattle.log_head.specs.Horizons.{HorizonValue, horizon_of, is_listed, is_passed, is_up_to, last_of}
+use Rattle.log_head.specs.Horizons.{HorizonValue, horizon_of, is_listed, is_passed}
 use Rattle.site_service.specs.LetGo.{may_be_gone}
 use Rattle.site_service.specs.Kept.{TellsCommit}
 use Rattle.field_bounds.specs.Effects.{open_txns}
 use Rattle.site_step.specs.Site.{here}
+use Rattle.site_step.specs.Shortening.{is_up_to}
 use Rattle.site_service.specs.Answers.{Served, site_of, held_in}
 use Rattle.site_service.specs.Shorter.{txn_of, IsSpared, ListsNone, ListsOne, ListsOpen, ListsAllOpen}
 

@@ -10,7 +10,7 @@ use Rattle.entry_text.specs.Spelling.{entry_text}
 use Rattle.entry_text.specs.Lines.{max_line}
 use Rattle.kept_records.specs.declared.record.Record.{Record}
 use Rattle.site_step.specs.Site.{SiteValue, Applies}
-use Rattle.site_service.specs.Answers.{held_of}
+use Rattle.site_step.specs.Shortening.{held_of}
 use Rattle.log_head.specs.declared.gone.Gone.{Gone}
 use Rattle.site_service.specs.declared.key_answer.KeyAnswer.TheVariants.{Kept}
 use Rattle.site_service.specs.LetGo.{LetGo, let_go_of, commit_answer, key_answer}

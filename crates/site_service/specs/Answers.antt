@@ -1,5 +1,5 @@
 -- What a site answers to lines (this project).
-use Rattle.std.specs.Prelude.{◌≡◌, ◌≢◌, ◌⊎◌, ◌<◌, ◌≤◌, ℕ, Bool, true, false, if◌then◌else◌, List, [], ◌∷◌, ◌++◌, length, drop, Option, None, Some, codes}
+use Rattle.std.specs.Prelude.{◌≡◌, ◌≢◌, ◌⊎◌, ◌<◌, ◌≤◌, ℕ, Bool, true, false, if◌then◌else◌, List, [], ◌∷◌, ◌++◌, length, Option, None, Some, codes}
 use Rattle.std.specs.Fmt.{decimal}
 use Rattle.field_bounds.specs.Schema.{SchemaValue}
 use Rattle.field_bounds.specs.declared.id.SiteNo.{SiteNo}
@@ -8,9 +8,8 @@ use Rattle.field_bounds.specs.declared.entry.Command.{Command}
 use Rattle.field_bounds.specs.declared.entry.Command.TheVariants.{Commit}
 use Rattle.field_bounds.specs.declared.entry.Reply.{Reply}
 use Rattle.field_bounds.specs.declared.entry.Reply.TheVariants.{Committed}
-use Rattle.std.specs.List.{flat_map}
-use Rattle.kept_records.specs.Text.{text as record_text}
 use Rattle.site_step.specs.Site.{SiteValue, Applies, entry_of}
+use Rattle.site_step.specs.Shortening.{held_of}
 use Rattle.log_head.specs.declared.gone.Gone.{Gone}
 use Rattle.entry_text.specs.Spelling.{command_text, entry_text}
 use Rattle.entry_text.specs.Ranges.{SiteFits, IdFits, CommandFits}
@@ -28,10 +27,6 @@ use Rattle.site_service.specs.declared.bad_line.BadLine.TheVariants.{TooLong, Ot
 -- A site as if nothing of its log had been let go: where the bytes of the log lie makes no difference to what it answers.
 abbrev pub whole_of : SiteValue → SiteValue
 whole_of site = record site { gone = [] }
-
--- What is held of a site's log: all bytes but the texts of the records that are gone.
-abbrev pub held_of : SiteValue → List ℕ
-held_of site = drop (length (flat_map record_text site.gone)) site.bytes
 
 -- What the answer to a line depends on: the site, as if nothing of its log had been let go; the keys of callers that were noted, each
 -- with its last transaction; what was let go of the log; and how many lines were answered before, as a u64 that begins again at 0.

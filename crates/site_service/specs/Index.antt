@@ -10,7 +10,7 @@ use Rattle.field_bounds.specs.Schema.{SchemaValue}
 use Rattle.caller_keys.specs.Keys.{KeyNote, IsNote, note_line, AreLines, last_txn}
 use Rattle.file_medium.specs.Copies.{IsCopyOf}
 use Rattle.site_step.specs.Site.{SiteValue}
-use Rattle.site_service.specs.Commits.{has_commit}
+use Rattle.site_step.specs.Shortening.{has_commit}
 use Rattle.site_service.specs.Kept.{LastNotes, last_of}
 use Rattle.site_service.specs.Answers.{held_in}
 use Rattle.site_service.specs.Service.{ServiceValue, IsTextOf, StandsOnHeld, IsLinked}

@@ -4,13 +4,11 @@ pub mod Opening
 pub mod Traces
 pub mod Serving
 pub mod Stops
-pub mod Commits
 pub mod Kept
 pub mod LetGo
 pub mod LineFaults
 pub mod Index
 pub mod Behind
-pub mod Plan
 pub mod Shortening
 pub mod Shorter
 pub mod Rising

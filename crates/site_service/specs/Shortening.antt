@@ -11,7 +11,7 @@ use Rattle.kept_records.specs.Summary.{SummaryValue, summary_record}
 use Rattle.site_step.specs.Site.{here}
 use Rattle.log_head.specs.declared.gone.Gone.{Gone}
 use Rattle.log_head.specs.Horizons.{is_passed}
-use Rattle.site_service.specs.Commits.{has_commit}
+use Rattle.site_step.specs.Shortening.{has_commit}
 use Rattle.site_service.specs.LetGo.{LetGo, let_go_of, may_be_gone}
 use Rattle.site_service.specs.Kept.{LastNotes, last_of, if_committed, TellsCommit}
 use Rattle.site_service.specs.Answers.{Served, site_of, held_in}

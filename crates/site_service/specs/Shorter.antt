@@ -9,13 +9,13 @@ use Rattle.caller_keys.specs.Keys.{KeyNote, IsNote, note_line, last_txn}
 use Rattle.caller_keys.specs.Tables.{stored_of}
 use Rattle.site_step.specs.Site.{here}
 use Rattle.log_head.specs.declared.gone.Gone.{Gone}
-use Rattle.log_head.specs.Horizons.{is_listed, is_passed, is_up_to, horizon_of}
+use Rattle.log_head.specs.Horizons.{is_listed, is_passed, horizon_of}
 use Rattle.site_service.specs.declared.service.shortening.Shorter.{Shorter}
 use Rattle.site_service.specs.LetGo.{may_be_gone}
 use Rattle.site_service.specs.Kept.{LastNotes, last_of, noted, if_committed, TellsCommit}
 use Rattle.site_service.specs.Answers.{Served, site_of, held_in}
 use Rattle.site_service.specs.Index.{IsIndexOf, IsBehind}
-use Rattle.site_service.specs.Plan.{ShorteningValue}
+use Rattle.site_step.specs.Shortening.{ShorteningValue}
 use Rattle.site_service.specs.Shortening.{TellsMore, SparesOpenBy, KeepsHeldNotes}
 
 -- ---- keys

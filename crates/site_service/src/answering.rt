@@ -12,7 +12,7 @@ ghost use Rattle.site_service.specs.Kept.{TellsCommit, TellsKey, kept_words, kep
 ghost use Rattle.site_service.specs.LetGo.{commit_answer, key_answer};
 ghost use Rattle.site_service.specs.Service.{StandsOnHeld, Tells, TellsEntry};
 ghost use Rattle.log_head.specs.declared.gone.Gone.{Gone as GoneValue};
-ghost use Rattle.site_service.specs.Answers.{held_of};
+ghost use Rattle.site_step.specs.Shortening.{held_of};
 
 use crate::asking::{Request, asked};
 use crate::bad_line::add_bad;

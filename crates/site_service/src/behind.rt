@@ -1,7 +1,7 @@
 //! What a service finds in a log whose front was let go.
 
 ghost use Rattle.field_bounds.specs.declared.id.TxnId.{TxnId as Txn};
-ghost use Rattle.site_service.specs.Commits.{has_commit};
+ghost use Rattle.site_step.specs.Shortening.{has_commit};
 ghost use Rattle.std.specs.Prelude.{◌≡◌, ◌<◌, [], true, ℕ, List, IfOk, IfErr, IfSome, IfNone, OnErr};
 ghost use Rattle.kept_records.specs.Summary.{SummaryValue};
 ghost use Rattle.script_input.specs.Lines.{last_part};

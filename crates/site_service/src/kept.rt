@@ -6,7 +6,7 @@ ghost use Rattle.kept_records.specs.Keeping.{IsKept};
 ghost use Rattle.field_bounds.specs.declared.entry.Escrow.{Escrow};
 ghost use Rattle.kept_records.specs.Lent.{record_told};
 ghost use Rattle.kept_records.specs.Logs.{HasNoLf};
-ghost use Rattle.site_service.specs.Commits.{is_commit_of};
+ghost use Rattle.site_step.specs.Shortening.{is_commit_of};
 ghost use Rattle.site_service.specs.Kept.{TellsCommit};
 ghost use Rattle.site_service.specs.Index.{IsIndexOf};
 

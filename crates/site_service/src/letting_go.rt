@@ -3,7 +3,7 @@
 ghost use Rattle.std.specs.Prelude.{◌≡◌, ℕ, ◌+◌, true, List, Option, IfOk, IfSome};
 ghost use Rattle.field_bounds.specs.declared.id.TxnId.{TxnId as Txn};
 ghost use Rattle.kept_records.specs.Keeping.{IsKept};
-ghost use Rattle.log_head.specs.Horizons.{is_up_to};
+ghost use Rattle.site_step.specs.Shortening.{is_up_to};
 ghost use Rattle.site_service.specs.Index.{IsIndexOf};
 ghost use Rattle.site_service.specs.LetGo.{may_be_gone};
 ghost use Rattle.site_service.specs.Shortening.{bytes_told, records_told};

@@ -17,7 +17,6 @@ mod letting_go;
 mod line_fault;
 mod no_trace;
 mod opening;
-mod plan;
 mod service;
 mod serving;
 mod telling;

@@ -5,7 +5,7 @@ ghost use Rattle.field_bounds.specs.Owed.{is_up};
 ghost use Rattle.log_head.specs.Horizons.{is_passed};
 ghost use Rattle.site_step.specs.Site.{base_of};
 ghost use Rattle.site_service.specs.Answers.{site_of};
-ghost use Rattle.site_service.specs.Plan.{IsShortening};
+ghost use Rattle.site_step.specs.Shortening.{IsShortening};
 ghost use Rattle.site_service.specs.Service.{IsSettled};
 ghost use Rattle.site_service.specs.Shortening.{TellsMore, MayLetGo, SparesOpenBy, SparesOpen, LeavesEither};
 ghost use Rattle.site_service.specs.Shorter.{ListsAllOpen, IsShorter};
@@ -15,11 +15,11 @@ use crate::kept::KeptCommits;
 use crate::keyed::held_keys;
 use crate::keys::NotedKeys;
 use crate::letting_go::{counted, list_open, reached};
-use crate::plan::{Shortening, find_shortening, open_txn, shorten};
 use field_bounds::TxnId;
 use kept_records::Device;
 use log_head::{Gone, Horizon};
 use short_log::{PutFault, ShortLog};
+use site_step::Shortening;
 use std::alloc::{AllocError, Global};
 
 /// More than so many transactions are never open.
@@ -40,17 +40,17 @@ impl<F: ShortLog> Service<F> {
     fn open_then(
         &mut self,
         alloc: Global,
-        plan: &Shortening,
         last: TxnId,
     ) -> Result<Option<Vec<u32>>, AllocError>
-        requires plan { IsShortening (site_of self.old.served) plan.now }
+        requires up { is_up (base_of (site_of self.old.served)) self.old.served.site.history
+            ≡ true }
         ensures same { self.new ≡ self.old }
         ensures lists { IfOk result (λ told. IfSome told (λ listed. ListsAllOpen self.old.served last
             listed.items)) }
     {
         let mut listed = Vec::new(alloc);
         'open: for n in 0..MAX_OPEN + 1 {
-            let Some(txn) = open_txn(&self.site, plan, n) else {
+            let Some(txn) = self.site.open_txn(n) else {
                 return Ok(Some(listed));
             };
             if !list_open(
@@ -82,7 +82,7 @@ impl<F: ShortLog> Service<F> {
             return Ok(None);
         };
         let last = reached(&self.told, plan.latest());
-        let Some(listed) = self.open_then(alloc, plan, last)? else {
+        let Some(listed) = self.open_then(alloc, last)? else {
             return Ok(None);
         };
         match Horizon::new(last.epoch, last.number, listed) {
@@ -143,7 +143,7 @@ impl<F: ShortLog> Service<F> {
         match self.log.replace(&told, text.as_slice()) {
             Ok(()) => {
                 self.settled = plan.held().len();
-                shorten(&mut self.site, plan);
+                self.site.shorten(plan);
                 self.kept = kept;
                 self.keys = keys;
                 self.told = Some(told);
@@ -180,7 +180,7 @@ impl<F: ShortLog> Service<F> {
         ensures served { OnErr result (self.new.served ≡ self.old.served) }
         ensures safe { OnErr result (LeavesEither self.old.served self.new.safe) }
     {
-        let Ok(Some(plan)) = find_shortening(&self.site, alloc, keep) else {
+        let Ok(Some(plan)) = self.site.shortening(alloc, keep) else {
             return Ok(());
         };
         let Ok(Some(shorter)) = self.shorter(alloc, &plan) else {

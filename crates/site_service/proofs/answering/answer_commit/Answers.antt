@@ -4,7 +4,7 @@ use Rattle.kept_records.specs.Keeping.{IsKept}
 use Rattle.site_service.specs.Kept.{TellsKey}
 use Rattle.site_service.specs.Index.{IsIndexOf}
 use Rattle.site_service.proofs.Index.{index_grows}
-use Rattle.site_service.specs.Answers.{held_of}
+use Rattle.site_step.specs.Shortening.{held_of}
 use Rattle.site_service.proofs.Held.{held_medium, held_kept, held_goes, goes_same}
 use Rattle.site_service.proofs.Told.{any_err, left_still, told_refused, told_committed, left_committed}
 use Rattle.site_service.proofs.answering.answer_commit.Goals as goal

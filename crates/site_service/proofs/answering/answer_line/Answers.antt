@@ -6,7 +6,7 @@ use Rattle.site_service.specs.Kept.{TellsCommit, TellsKey}
 use Rattle.site_service.specs.Index.{IsIndexOf}
 use Rattle.site_service.specs.Answers.{AsksCommit}
 use Rattle.site_service.proofs.Index.{index_grows}
-use Rattle.site_service.specs.Answers.{held_of}
+use Rattle.site_step.specs.Shortening.{held_of}
 use Rattle.site_service.proofs.Held.{held_medium, held_kept, held_goes, goes_same}
 use Rattle.site_service.proofs.Told.{told_command, left_command, left_still, told_commit, told_key, told_bad, told_long, any_err}
 use Rattle.site_service.proofs.answering.answer_line.Goals as goal

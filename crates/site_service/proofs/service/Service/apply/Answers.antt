@@ -2,7 +2,7 @@ use Rattle.std.proofs.Common.{ap, subst}
 use Rattle.std.proofs.lemmas.Result.{on_ok_weaker, on_err_weaker}
 use Rattle.site_service.specs.Service.{ServiceValue, Grows}
 use Rattle.site_service.proofs.Links.{sound_grows, log_kept, let_go_kept, waits_same, has_applied}
-use Rattle.site_service.specs.Answers.{held_of}
+use Rattle.site_step.specs.Shortening.{held_of}
 use Rattle.site_service.specs.Answers.{whole_of}
 use Rattle.site_service.proofs.Index.{index_grows}
 use Rattle.site_service.proofs.Held.{held_goes, grows_whole}

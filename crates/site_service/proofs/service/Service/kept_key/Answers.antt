@@ -1,6 +1,6 @@
 use Rattle.std.proofs.Common.{◌≡◌, List, ℕ, ap, sym, subst, ◌∙◌}
 use Rattle.kept_records.specs.Keeping.{IsKept}
-use Rattle.site_service.specs.Answers.{held_of}
+use Rattle.site_step.specs.Shortening.{held_of}
 use Rattle.site_service.specs.Kept.{TellsKey, AnswersKey}
 use Rattle.site_service.specs.Answers.{held_in}
 use Rattle.site_service.specs.Index.{IsIndexOf}

@@ -1,7 +1,7 @@
 use Rattle.std.proofs.Common.{◌≡◌, true, Bool, List, [], None, refl, sym, ap, ◌∙◌, subst}
 use Rattle.field_bounds.specs.declared.id.TxnId.{TxnId}
 use Rattle.kept_records.specs.declared.record.Record.{Record}
-use Rattle.site_service.specs.Commits.{has_commit}
+use Rattle.site_step.specs.Shortening.{has_commit}
 use Rattle.site_service.specs.LetGo.{let_go_of, may_be_gone}
 use Rattle.site_service.specs.Answers.{whole_of}
 use Rattle.site_service.specs.Service.{IsTextOf}

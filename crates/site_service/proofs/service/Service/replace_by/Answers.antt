@@ -2,7 +2,7 @@ use Rattle.std.proofs.Common.{◌≡◌, ℕ, List, Option, length, refl, sym, a
 use Rattle.file_medium.specs.Copies.{IsCopyOf}
 use Rattle.site_service.specs.Answers.{Served, site_of}
 use Rattle.site_service.specs.Service.{ServiceValue, IsSettled}
-use Rattle.site_service.specs.Plan.{IsShortening}
+use Rattle.site_step.specs.Shortening.{IsShortening}
 use Rattle.site_service.specs.Shortening.{HasLetGo, MayLetGo, SparesOpen, LeavesEither}
 use Rattle.site_service.specs.Shorter.{IsShorter}
 use Rattle.site_service.proofs.Links.{sound_lost, settled_text}

@@ -1,7 +1,7 @@
 use Rattle.std.proofs.Common.{◌≡◌, ◌∙◌, ℕ, List, length, take, drop, ◌-◌, ap, sym, subst}
 use Rattle.std.proofs.lemmas.List.{take_rest}
 use Rattle.std.specs.Io.KnownBytes.{append_known}
-use Rattle.site_service.specs.Answers.{held_of}
+use Rattle.site_step.specs.Shortening.{held_of}
 use Rattle.site_service.specs.Answers.{held_in}
 use Rattle.site_service.specs.Service.{ServiceValue, AddsNotesFirst, IsSettled}
 use Rattle.file_medium.specs.Copies.{IsCopyOf}

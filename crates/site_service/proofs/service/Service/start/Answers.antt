@@ -1,5 +1,5 @@
 use Rattle.std.proofs.Common.{length, refl, sym, ap, subst, ◌∙◌}
-use Rattle.site_service.specs.Answers.{held_of}
+use Rattle.site_step.specs.Shortening.{held_of}
 use Rattle.site_service.specs.Opening.{IsSafe}
 use Rattle.site_service.proofs.Links.{sound_opened, is_started, copy_safe}
 use Rattle.site_service.proofs.Held.{held_medium}
