@@ -102,21 +102,21 @@ module _ (held : List ℕ) (n : ℕ) (old new later : LastNotes) (key : List ℕ
 
   -- of another
   other_same : (f : Option TxnId) (other : List ℕ) → bytes_eq key other ≡ false → noted_if new key f other ≡ last_of new other
-  other_same None other no = refl
-  other_same (Some txn) other no = ap (λ (b : Bool). cond b (Some txn) (last_of new other)) no
+  other_same None other not_so = refl
+  other_same (Some txn) other not_so = ap (λ (b : Bool). cond b (Some txn) (last_of new other)) not_so
 
   others : (other : List ℕ) → bytes_eq key other ≡ false → noted_if new key found other ≡ if_committed rs (last_seen (suc n) old other)
-  others other no =
-      other_same found other no ∙ keeps rs rest log other
+  others other not_so =
+      other_same found other not_so ∙ keeps rs rest log other
       ∙ ap (λ (b : Bool). if_committed rs (cond b (last_of old other) None))
-      (sym (seen_next old n key other row ∙ ap (λ (b : Bool). is_seen n old other || b) (apart key other (bytes_eq other key) no refl)
+      (sym (seen_next old n key other row ∙ ap (λ (b : Bool). is_seen n old other || b) (apart key other (bytes_eq other key) not_so refl)
       ∙ or_none (is_seen n old other)))
 
   pub keeps_next : (other : List ℕ) → last_of later other ≡ if_committed rs (last_seen (suc n) old other)
   keeps_next other =
       anew other ∙ elim (alike_or_not key other (bytes_eq key other) refl) [
         | inl same ↦ subst (λ (o : List ℕ). noted_if new key found o ≡ if_committed rs (last_seen (suc n) old o)) same own
-        | inr no ↦ others other no
+        | inr not_so ↦ others other not_so
       ]
 
 pub keeps_none : (held : List ℕ) (old new : LastNotes) → ((key : List ℕ) → last_of new key ≡ None) → KeepsSeen held 0 old new

@@ -54,6 +54,7 @@ module _ (site : SiteValue) (last : LastNotes) (told : Option Gone) (lines : ℕ
   }
 
   later_held : held_of shorter_site ≡ plan.held
+  unfolding later_stands
   later_held = (held_log shorter_site later_stands).parts ∙ sym is.held.parts
 
   later_told : IsTold (let_go_of (site.gone ++ plan.gone) (Some shorter.told))

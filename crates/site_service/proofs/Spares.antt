@@ -72,8 +72,8 @@ either a b c d = elim (cases_lt c a) [
 ]
 
 pub up_other : (a b : TxnId) → is_up_to a b ≡ false → is_up_to b a ≡ true
-up_other a b no = elim (either a.epoch a.number b.epoch b.number) [
-  | inl first ↦ absurd (both (is_up_to a b) (is_up a b first) no)
+up_other a b not_so = elim (either a.epoch a.number b.epoch b.number) [
+  | inl first ↦ absurd (both (is_up_to a b) (is_up a b first) not_so)
   | inr second ↦ is_up b a second
 ]
 
@@ -100,8 +100,8 @@ is_passed_by h txn (inr same) =
     rw (eq-eqb _ _ same.0, le-leb _ _ same.1, same.2) (or_true (nat_lt txn.epoch h.epoch))
 
 not_passed : (h : HorizonValue) (txn : TxnId) → (Passed h txn → ⊥) → is_passed h txn ≡ false
-not_passed h txn no = elim (is_passed h txn) as (λ b. is_passed h txn ≡ b → b ≡ false) [
-  | true ↦ λ e. absurd (no (passed h txn e))
+not_passed h txn not_so = elim (is_passed h txn) as (λ b. is_passed h txn ≡ b → b ≡ false) [
+  | true ↦ λ e. absurd (not_so (passed h txn e))
   | false ↦ λ e. refl
 ] refl
 
@@ -131,10 +131,10 @@ listed_last : (n : ℕ) (listed : List ℕ) → is_listed n (listed ++ n ∷ [])
 listed_last n listed = listed_more n n listed ∙ rw (eq-eqb n n refl) (or_true (is_listed n listed))
 
 listed_before : (n m : ℕ) (listed : List ℕ) → is_listed n (listed ++ m ∷ []) ≡ false → is_listed n listed ≡ false
-listed_before n m listed no = elim (is_listed n listed) as (λ b. (b || ((m == n) || false)) ≡ false → b ≡ false) [
+listed_before n m listed not_so = elim (is_listed n listed) as (λ b. (b || ((m == n) || false)) ≡ false → b ≡ false) [
   | true ↦ λ h. absurd cc
   | false ↦ λ h. refl
-] (sym (listed_more n m listed) ∙ no)
+] (sym (listed_more n m listed) ∙ not_so)
 
 or_false : (a : Bool) → (a || false) ≡ true → a ≡ true
 or_false true h = refl
@@ -151,16 +151,16 @@ module _ (held : List ℕ) (told : Option Gone) (last txn : TxnId) (old : List �
     }
 
     pub gone_before : may_be_gone told txn ≡ true → ListsOne held told last old new txn
-    gone_before gone = needn't (λ none no. absurd (both (may_be_gone told txn) gone no))
+    gone_before gone = needn't (λ none not_so. absurd (both (may_be_gone told txn) gone not_so))
 
     pub not_reached : is_up_to last txn ≡ false → ListsOne held told last old new txn
-    not_reached no = needn't (λ none free. not_passed (horizon_of last.epoch last.number old) txn (λ (p : Passed (horizon_of last.epoch last.number old) txn).
+    not_reached not_so = needn't (λ none free. not_passed (horizon_of last.epoch last.number old) txn (λ (p : Passed (horizon_of last.epoch last.number old) txn).
         both (is_up_to last txn) (passed_up (horizon_of last.epoch last.number old) txn
-        (is_passed_by (horizon_of last.epoch last.number old) txn p)) no))
+        (is_passed_by (horizon_of last.epoch last.number old) txn p)) not_so))
 
     pub held_still : IsKept held → TellsCommit held txn true → ListsOne held told last old new txn
     held_still kept tells = needn't (λ none free.
-        let yes = tells kept.0 kept.1 kept.2 in let no = none kept.0 kept.1 kept.2 in absurd cc)
+        let yes = tells kept.0 kept.1 kept.2 in let not_so = none kept.0 kept.1 kept.2 in absurd cc)
 
   module _ (new : List ℕ) (is : new ≡ old ++ txn.number ∷ []) (own : txn.epoch ≡ last.epoch) (free : may_be_gone told txn ≡ false)
       (tells : TellsCommit held txn false) where
@@ -178,18 +178,18 @@ module _ (held : List ℕ) (told : Option Gone) (last txn : TxnId) (old : List �
     ]
 
     spared : IsSpared held told last more txn
-    spared none no = not_passed (horizon_of last.epoch last.number more) txn (λ (p : Passed (horizon_of last.epoch last.number more) txn). elim p [
+    spared none not_so = not_passed (horizon_of last.epoch last.number more) txn (λ (p : Passed (horizon_of last.epoch last.number more) txn). elim p [
       | inl less ↦ absurd (omega (arith, less, own))
       | inr same ↦ both (is_listed txn.number more) (listed_last txn.number old) same.2
     ])
 
     others : (other : TxnId) → IsSpared held told last old other → IsSpared held told last more other
-    others other spares none no = not_passed (horizon_of last.epoch last.number more) other (λ (p : Passed (horizon_of last.epoch last.number more) other).
+    others other spares none not_so = not_passed (horizon_of last.epoch last.number more) other (λ (p : Passed (horizon_of last.epoch last.number more) other).
         both (is_passed (horizon_of last.epoch last.number old) other)
         (is_passed_by (horizon_of last.epoch last.number old) other (elim p [
           | inl less ↦ inl less
           | inr same ↦ inr (same.0, same.1, listed_before other.number txn.number old same.2)
-        ])) (spares none no))
+        ])) (spares none not_so))
 
     pub lists_more : ListsOne held told last old new txn
     lists_more = record {
