@@ -4,6 +4,7 @@ mod batches;
 mod faults;
 mod kept;
 mod keys;
+mod shortening;
 mod starts;
 mod traces;
 mod turns;
