@@ -1,6 +1,6 @@
 //! A site served over the log of its folder: from the first line of all to the end of the input.
 
-ghost use Rattle.std.specs.Prelude.{◌≡◌, IfOk, OnOk, OnErr, string_bytes};
+ghost use Rattle.std.specs.Prelude.{◌≡◌, None, IfOk, OnOk, OnErr, string_bytes};
 ghost use Rattle.script_input.specs.Streams.{GaveNothing};
 ghost use Rattle.site_service.specs.Opening.{IsOpened, KeepsLines, SparesLines};
 ghost use Rattle.site_service.specs.Service.{IsSettled};
@@ -100,6 +100,7 @@ fn write_ready<F: LogFile, W: Sink>(
     writer: &mut W,
 ) -> Result<(), Fault>
     requires safe { IsSettled service.now }
+    requires whole { service.now.served.let_go.told ≡ None }
     ensures ready { OnOk result (TellsReady (W.bytes writer.old) (W.bytes writer.new)
         service.now) }
     ensures refused { OnErr result (StopsAtReady (W.bytes writer.old) (W.bytes writer.new)
@@ -145,6 +146,7 @@ pub fn serve_streams<F: LogFile, T: LogFile, R: Source, W: Sink>(
     writer: &mut W,
 ) -> Result<(), Fault>
     requires safe { IsSettled service.old }
+    requires whole { service.old.served.let_go.told ≡ None }
     ensures ok { OnOk result (ServesReady (R.bytes reader.old) (R.bytes reader.new)
         (W.bytes writer.old) (W.bytes writer.new) (trace_of (T.bytes trace.old) (T.safe trace.old))
         (trace_of (T.bytes trace.new) (T.safe trace.new)) service.old service.new) }

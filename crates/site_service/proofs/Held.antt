@@ -27,7 +27,7 @@ use Rattle.site_service.proofs.Whole.{rest_is_last, writes_whole}
 -- ---- what is held
 
 -- the records of a log begin with those that its bytes begin with
-begins_log : (bytes : List ℕ) (rs : List Record) (left : List ℕ) (all : List Record) (rest : List ℕ) → bytes ≡ flat_map text rs ++ left
+pub begins_log : (bytes : List ℕ) (rs : List Record) (left : List ℕ) (all : List Record) (rest : List ℕ) → bytes ≡ flat_map text rs ++ left
     → AllByRecursion IsRecord rs → IsLog bytes all rest → (more : List Record) × (all ≡ rs ++ more)
 begins_log bytes [] left all rest parts each log = (all, refl)
 begins_log bytes (r ∷ rs) left all rest parts each log =

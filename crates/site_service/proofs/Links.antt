@@ -127,6 +127,30 @@ module _ (schema : SchemaValue) (site : SiteValue) (last : LastNotes) (told : Op
         noting = sound.noting;
       }
 
+  -- the file is as it was
+  pub sound_put : (other now : Option (List ℕ)) (fewest : Option ℕ) → other ≡ log → now ≡ safe → fewest ≡ least
+      → IsSoundService schema site (value_of site last told lines waiting other now fewest settled lost) kept unlogged
+  sound_put other now fewest same_log same_safe same_least =
+      let link = sound.linked in
+      record {
+        linked = record {
+          own = link.own;
+          stands = link.stands;
+          let_go = link.let_go;
+          within = link.within;
+          text = link.text;
+          lines = link.lines;
+          notes = link.notes;
+          keyed = link.keyed;
+          more = link.more;
+          tells = link.tells;
+          safe = λ h. subst (λ (k : Option (List ℕ)). IsCopyOf k link.text) (sym same_safe) (link.safe h);
+          log = λ h. subst (λ (k : Option (List ℕ)). IsCopyOf k link.text) (sym same_log) (link.log h);
+        };
+        index = sound.index;
+        noting = sound.noting;
+      }
+
   -- the text that the log holds once it has got the lines of notes, and the rest of what the medium holds
   abbrev grown_text : List ℕ
   grown_text = (sound.linked.text ++ unlogged) ++ drop settled (held_of site)

@@ -111,9 +111,6 @@ early_commit (r ∷ rs) txn all has = elim (or_parts (is_commit_of txn r) (has_c
   | inr there ↦ early_commit rs txn all.1 there
 ]
 
--- so a horizon of epoch 1 or later passes it
-pub passes_past : (schema : SchemaValue) (s : ℕ) (base : SummaryValue) (h : HorizonValue) → 1 ≤ h.epoch → (txn : TxnId)
-    → has_commit txn (past_of schema s base) ≡ true → is_passed h txn ≡ true
-passes_past schema s base h late txn has =
-    let early = early_commit (past_of schema s base) txn (past_early schema s base) has in
-    rw (lt-ltb txn.epoch h.epoch (omega (arith, late, early))) refl
+-- a horizon of epoch 1 or later passes such a transaction
+pub early_passes : (h : HorizonValue) → 1 ≤ h.epoch → (txn : TxnId) → txn.epoch ≡ 0 → is_passed h txn ≡ true
+early_passes h late txn early = rw (lt-ltb txn.epoch h.epoch (omega (arith, late, early))) refl

@@ -27,6 +27,12 @@ use Rattle.site_service.specs.Shorter.{IsShorter}
 use Rattle.site_service.proofs.KeyedTexts.{keyed_more, lines_more}
 use Rattle.site_service.proofs.Held.{held_log}
 
+-- what a put left that failed
+pub left_by : (was now : Option (List ℕ)) (given text : List ℕ) → given ≡ text → (now ≡ was) ⊎ IsCopyOf now given
+    → (now ≡ was) ⊎ IsCopyOf now text
+left_by was now given text same (inl still) = inl still
+left_by was now given text same (inr copy) = inr (subst (IsCopyOf now) same copy)
+
 or_parts : (a b : Bool) → (a || b) ≡ true → (a ≡ true) ⊎ (b ≡ true)
 or_parts true b h = inl refl
 or_parts false b h = inr h

@@ -11,10 +11,9 @@ use Rattle.log_head.specs.Horizons.{HorizonValue, horizon_of, is_listed, is_pass
 use Rattle.site_service.specs.LetGo.{may_be_gone}
 use Rattle.site_service.specs.Kept.{TellsCommit}
 use Rattle.field_bounds.specs.Effects.{open_txns}
-use Rattle.site_step.specs.Site.{here}
+use Rattle.site_step.specs.Site.{SiteValue, here}
 use Rattle.site_step.specs.Shortening.{is_up_to}
-use Rattle.site_service.specs.Answers.{Served, site_of, held_in}
-use Rattle.site_service.specs.Shorter.{txn_of, IsSpared, ListsNone, ListsOne, ListsOpen, ListsAllOpen}
+use Rattle.site_service.specs.Shorter.{txn_of, IsSpared, ListsNone, ListsOne, ListsIf, ListsOpen, ListsAllOpen}
 
 -- ---- the order of transactions
 
@@ -207,10 +206,11 @@ past_none (y ∷ ys) (suc n) zero x none some = omega arith
 past_none (y ∷ ys) (suc n) (suc k) x none some = omega (arith, past_none ys n k x none some)
 
 -- none was gone over
-pub lists_nothing : (old : Served) (last : TxnId) (n : ℕ) (listed : List ℕ) → n ≡ 0 → listed ≡ [] → ListsOpen old last n listed
-lists_nothing old last n listed zero' none = record {
+pub lists_nothing : (site : SiteValue) (held : List ℕ) (told : Option Gone) (last : TxnId) (listed : List ℕ) → listed ≡ []
+    → ListsOpen site held told last 0 listed
+lists_nothing site held told last listed none = record {
   none = λ m there. absurd (both (is_listed m []) (sym (ap (is_listed m) none) ∙ there) refl);
-  spared = λ m txn fewer some. absurd (omega (arith, fewer, zero'));
+  spared = λ m txn fewer some. absurd (omega (arith, fewer));
 }
 
 -- one more was
@@ -220,26 +220,33 @@ at_or_before m n fewer = elim (cases_lt m n) [
   | inr past ↦ inr (omega (arith, fewer, past))
 ]
 
-module _ (old : Served) (last : TxnId) (n : ℕ) (before listed : List ℕ) (txn : TxnId) (so_far : ListsOpen old last n before)
-    (next : slice_get (reverse (open_txns (here (site_of old)).effects)) n ≡ Some txn)
-    (one : ListsOne (held_in old) old.let_go.told last before listed txn) where
-  its_turn : (m : ℕ) (other : TxnId) → (m < n) ⊎ (m ≡ n) → slice_get (reverse (open_txns (here (site_of old)).effects)) m ≡ Some other
-      → IsSpared (held_in old) old.let_go.told last listed other
+module _ (site : SiteValue) (held : List ℕ) (told : Option Gone) (last : TxnId) (n : ℕ) (before listed : List ℕ) (txn : TxnId)
+    (so_far : ListsOpen site held told last n before) (next : slice_get (reverse (open_txns (here site).effects)) n ≡ Some txn)
+    (one : ListsOne held told last before listed txn) where
+  its_turn : (m : ℕ) (other : TxnId) → (m < n) ⊎ (m ≡ n) → slice_get (reverse (open_txns (here site).effects)) m ≡ Some other
+      → IsSpared held told last listed other
   its_turn m other (inl less) some = one.others other (so_far.spared m other less some)
   its_turn m other (inr same) some =
       let found : ◌≡◌ {A = Option TxnId} (Some txn) (Some other) =
-      sym next ∙ ap (λ (k : ℕ). slice_get (reverse (open_txns (here (site_of old)).effects)) k) (sym same) ∙ some in
+      sym next ∙ ap (λ (k : ℕ). slice_get (reverse (open_txns (here site).effects)) k) (sym same) ∙ some in
       let is : txn ≡ other = cc in
-      subst (IsSpared (held_in old) old.let_go.told last listed) is one.spared
+      subst (λ (t : TxnId). IsSpared held told last listed t) is one.spared
 
-  pub lists_next : (m : ℕ) → m ≡ n + 1 → ListsOpen old last m listed
-  lists_next m is = record {
+  pub lists_next : ListsOpen site held told last (n + 1) listed
+  lists_next = record {
     none = one.none so_far.none;
-    spared = λ k other fewer some. its_turn k other (at_or_before k n (omega (arith, fewer, is))) some;
+    spared = λ k other fewer some. its_turn k other (at_or_before k n fewer) some;
   }
 
 -- and no more are open
-pub lists_all : (old : Served) (last : TxnId) (n : ℕ) (listed : List ℕ) → ListsOpen old last n listed
-    → slice_get (reverse (open_txns (here (site_of old)).effects)) n ≡ None → ListsAllOpen old last listed
-lists_all old last n listed so_far none =
-    (so_far.none, λ k txn some. so_far.spared k txn (past_none (reverse (open_txns (here (site_of old)).effects)) n k txn none some) some)
+pub lists_all : (site : SiteValue) (held : List ℕ) (told : Option Gone) (last : TxnId) (n : ℕ) (listed : List ℕ)
+    → ListsOpen site held told last n listed → slice_get (reverse (open_txns (here site).effects)) n ≡ None
+    → ListsAllOpen site held told last listed
+lists_all site held told last n listed so_far none =
+    (so_far.none, λ k txn some. so_far.spared k txn (past_none (reverse (open_txns (here site).effects)) n k txn none some) some)
+
+-- what is told where it is listed
+pub lists_if : (held : List ℕ) (told : Option Gone) (last : TxnId) (old new : List ℕ) (txn : TxnId) (is : Bool) → is ≡ true
+    → ListsIf held told last old new txn is → ListsOne held told last old new txn
+lists_if held told last old new txn true yes lists = lists
+lists_if held told last old new txn false yes lists = absurd (both false yes refl)

@@ -7,13 +7,13 @@ use Rattle.kept_records.specs.declared.record.Record.{Record}
 use Rattle.kept_records.specs.Logs.{IsLog}
 use Rattle.caller_keys.specs.Keys.{KeyNote, IsNote, note_line, last_txn}
 use Rattle.caller_keys.specs.Tables.{stored_of}
-use Rattle.site_step.specs.Site.{here}
+use Rattle.site_step.specs.Site.{SiteValue, here}
 use Rattle.log_head.specs.declared.gone.Gone.{Gone}
 use Rattle.log_head.specs.Horizons.{is_listed, is_passed, horizon_of}
 use Rattle.site_service.specs.declared.service.shortening.Shorter.{Shorter}
 use Rattle.site_service.specs.LetGo.{may_be_gone}
 use Rattle.site_service.specs.Kept.{LastNotes, last_of, noted, if_committed, TellsCommit}
-use Rattle.site_service.specs.Answers.{Served, site_of, held_in}
+use Rattle.site_service.specs.Answers.{Served}
 use Rattle.site_service.specs.Index.{IsIndexOf, IsBehind}
 use Rattle.site_step.specs.Shortening.{ShorteningValue}
 use Rattle.site_service.specs.Shortening.{TellsMore, SparesOpenBy, KeepsHeldNotes}
@@ -66,18 +66,17 @@ abbrev pub ListsIf : List ℕ → Option Gone → TxnId → List ℕ → List �
 ListsIf held told last old new txn true = ListsOne held told last old new txn
 ListsIf held told last old new txn false = Unit {0}
 
--- The first so many open transactions are spared.
-pub record ListsOpen (old : Served) (last : TxnId) (count : ℕ) (listed : List ℕ) : Type 0 where
-  pub none : ListsNone (held_in old) old.let_go.told last listed
-  pub spared : (n : ℕ) (txn : TxnId) → n < count → slice_get (reverse (open_txns (here (site_of old)).effects)) n ≡ Some txn
-      → IsSpared (held_in old) old.let_go.told last listed txn
+-- The first so many transactions that are open at a site are spared.
+pub record ListsOpen (site : SiteValue) (held : List ℕ) (told : Option Gone) (last : TxnId) (count : ℕ) (listed : List ℕ) : Type 0 where
+  pub none : ListsNone held told last listed
+  pub spared : (n : ℕ) (txn : TxnId) → n < count → slice_get (reverse (open_txns (here site).effects)) n ≡ Some txn
+      → IsSpared held told last listed txn
 
 -- All of them are.
-abbrev pub ListsAllOpen : Served → TxnId → List ℕ → Type 0
-ListsAllOpen old last listed =
-    ListsNone (held_in old) old.let_go.told last listed
-    × ((n : ℕ) (txn : TxnId) → slice_get (reverse (open_txns (here (site_of old)).effects)) n ≡ Some txn
-    → IsSpared (held_in old) old.let_go.told last listed txn)
+abbrev pub ListsAllOpen : SiteValue → List ℕ → Option Gone → TxnId → List ℕ → Type 0
+ListsAllOpen site held told last listed =
+    ListsNone held told last listed
+    × ((n : ℕ) (txn : TxnId) → slice_get (reverse (open_txns (here site).effects)) n ≡ Some txn → IsSpared held told last listed txn)
 
 -- ---- the log
 

@@ -2,8 +2,9 @@
 
 ghost use Rattle.field_bounds.specs.declared.id.TxnId.{TxnId as Txn};
 ghost use Rattle.site_step.specs.Shortening.{has_commit};
-ghost use Rattle.std.specs.Prelude.{◌≡◌, ◌<◌, [], true, ℕ, List, IfOk, IfErr, IfSome, IfNone, OnErr};
-ghost use Rattle.kept_records.specs.Summary.{SummaryValue};
+ghost use Rattle.std.specs.Prelude.{◌≡◌, ◌<◌, [], true, false, ℕ, List, IfOk, IfErr, IfSome, IfNone, OnErr};
+ghost use Rattle.kept_records.specs.Summary.{SummaryValue, summary_record};
+ghost use Rattle.kept_records.specs.Stands.{is_summary};
 ghost use Rattle.script_input.specs.Lines.{last_part};
 ghost use Rattle.site_step.specs.Opening.{StartsWith};
 ghost use Rattle.log_bases.specs.Bases.{IsPast};
@@ -22,6 +23,27 @@ use log_bases::stand_on;
 use site_step::{OpenFault, Site};
 use std::alloc::{AllocError, Global};
 
+// The summary that a record is, or None where it is another.
+fn summary_of(record: Record) -> Option<Summary>
+    ensures some { IfSome result (λ base. summary_record base ≡ record) }
+    ensures none { IfNone result (is_summary record ≡ false) }
+{
+    match record {
+        Record::Summary {
+            epoch,
+            rights,
+            gifts,
+            accepts,
+            tightenings,
+        } => Some(Summary::new(epoch, rights, gifts, accepts, tightenings)),
+        Record::Commit { .. }
+        | Record::Gift { .. }
+        | Record::Accept { .. }
+        | Record::Tighten { .. }
+        | Record::Restart { .. } => None,
+    }
+}
+
 // The summary with which records begin, or None where they begin with none.
 fn first_base(alloc: Global, records: &[u8]) -> Result<Option<Summary>, AllocError>
     ensures some { IfOk result (λ told. IfSome told (StartsWith records.now)) }
@@ -29,17 +51,11 @@ fn first_base(alloc: Global, records: &[u8]) -> Result<Option<Summary>, AllocErr
         → StartsWith records.now base → ⊥)) }
 {
     let mut lines = LentRecords::new(alloc, records);
-    match lines.next_line(alloc)? {
-        RecordLine::Record(
-            Record::Summary {
-                epoch,
-                rights,
-                gifts,
-                accepts,
-                tightenings,
-            },
-        ) => Ok(Some(Summary::new(epoch, rights, gifts, accepts, tightenings))),
-        RecordLine::Record(_) | RecordLine::NoRecord | RecordLine::End => Ok(None),
+    let line = lines.next_line(alloc)?;
+    match line {
+        RecordLine::Record(record) => Ok(summary_of(record)),
+        RecordLine::NoRecord => Ok(None),
+        RecordLine::End => Ok(None),
     }
 }
 

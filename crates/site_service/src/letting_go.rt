@@ -3,15 +3,20 @@
 ghost use Rattle.std.specs.Prelude.{◌≡◌, ℕ, ◌+◌, true, List, Option, IfOk, IfSome};
 ghost use Rattle.field_bounds.specs.declared.id.TxnId.{TxnId as Txn};
 ghost use Rattle.kept_records.specs.Keeping.{IsKept};
+ghost use Rattle.field_bounds.specs.Owed.{is_up};
+ghost use Rattle.site_step.specs.Site.{base_of};
 ghost use Rattle.site_step.specs.Shortening.{is_up_to};
 ghost use Rattle.site_service.specs.Index.{IsIndexOf};
 ghost use Rattle.site_service.specs.LetGo.{may_be_gone};
 ghost use Rattle.site_service.specs.Shortening.{bytes_told, records_told};
-ghost use Rattle.site_service.specs.Shorter.{ListsIf};
+ghost use Rattle.site_service.specs.Shorter.{ListsIf, ListsAllOpen};
 
 use crate::kept::KeptCommits;
-use field_bounds::TxnId;
+use field_bounds::{Entry, TxnId};
+use history::GhostHistory;
+use kept_records::MemoryMedium;
 use log_head::Gone;
+use site_step::Site;
 use std::alloc::{AllocError, Global};
 
 /// The transaction in front of the first one that a site begins.
@@ -19,6 +24,9 @@ const FIRST: TxnId = TxnId {
     epoch: 1,
     number: 0,
 };
+
+/// More than so many transactions are never open.
+const MAX_OPEN: usize = 64;
 
 /// Whether the commit of a transaction may be among what was let go, by what is told. Costs what
 /// `Horizon::has_passed` costs.
@@ -128,4 +136,36 @@ pub(crate) fn list_open(
     }
     listed.push(txn.number)?;
     Ok(true)
+}
+
+/// The open transactions of a site that a horizon up to this one has to list, where its medium holds
+/// this log; None where it can't list one of them.
+pub(crate) fn list_all_open(
+    alloc: Global,
+    kept: &mut KeptCommits,
+    site: &Site<MemoryMedium, GhostHistory<Entry>>,
+    log: &[u8],
+    told: &Option<Gone>,
+    last: TxnId,
+) -> Result<Option<Vec<u32>>, AllocError>
+    requires up { is_up (base_of site.now) site.now.history ≡ true }
+    requires index { IsIndexOf kept.old log.now }
+    requires log { IsKept log.now }
+    ensures index { IsIndexOf kept.new log.now }
+    ensures lists { IfOk result (λ found. IfSome found (λ listed. ListsAllOpen site.now log.now
+        told.now last listed.items)) }
+{
+    let mut listed = Vec::new(alloc);
+    'open: for n in 0..MAX_OPEN + 1 {
+        match site.open_txn(n) {
+            Some(txn) => {
+                let is_listed = list_open(alloc, kept, log, told, last, &mut listed, txn)?;
+                if !is_listed {
+                    return Ok(None);
+                }
+            }
+            None => return Ok(Some(listed)),
+        }
+    }
+    Ok(None)
 }

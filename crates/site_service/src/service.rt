@@ -173,6 +173,7 @@ impl<F: LogFile + Drop> Service<F> {
             (trace_of (T.bytes trace.new) (T.safe trace.new)) []) }
         ensures uncut { T.least trace.new ≡ T.least trace.old }
     {
+        let _epoch = told.horizon.epoch();
         let mut log = log;
         match open_behind(alloc, &schema, number, &mut log) {
             Ok(opened) => Service::start(alloc, schema, opened, Some(told), log, trace),

@@ -4,7 +4,7 @@ ghost use Rattle.std.specs.Prelude.{◌≡◌, true, IfOk, IfSome, OnOk, OnErr};
 ghost use Rattle.field_bounds.specs.Owed.{is_up};
 ghost use Rattle.log_head.specs.Horizons.{is_passed};
 ghost use Rattle.site_step.specs.Site.{base_of};
-ghost use Rattle.site_service.specs.Answers.{site_of};
+ghost use Rattle.site_service.specs.Answers.{site_of, held_in};
 ghost use Rattle.site_step.specs.Shortening.{IsShortening};
 ghost use Rattle.site_service.specs.Service.{IsSettled};
 ghost use Rattle.site_service.specs.Shortening.{TellsMore, MayLetGo, SparesOpenBy, SparesOpen, LeavesEither};
@@ -14,16 +14,13 @@ use super::Service;
 use crate::kept::KeptCommits;
 use crate::keyed::held_keys;
 use crate::keys::NotedKeys;
-use crate::letting_go::{counted, list_open, reached};
+use crate::letting_go::{counted, list_all_open, reached};
 use field_bounds::TxnId;
 use kept_records::Device;
 use log_head::{Gone, Horizon};
 use short_log::{PutFault, ShortLog};
 use site_step::Shortening;
 use std::alloc::{AllocError, Global};
-
-/// More than so many transactions are never open.
-const MAX_OPEN: usize = 64;
 
 /// What takes the place of a service's log: what its head tells, and its text; and what the service
 /// knows of it then.
@@ -45,27 +42,18 @@ impl<F: ShortLog> Service<F> {
         requires up { is_up (base_of (site_of self.old.served)) self.old.served.site.history
             ≡ true }
         ensures same { self.new ≡ self.old }
-        ensures lists { IfOk result (λ told. IfSome told (λ listed. ListsAllOpen self.old.served last
+        ensures lists { IfOk result (λ told. IfSome told (λ listed. ListsAllOpen
+            (site_of self.old.served) (held_in self.old.served) self.old.served.let_go.told last
             listed.items)) }
     {
-        let mut listed = Vec::new(alloc);
-        'open: for n in 0..MAX_OPEN + 1 {
-            let Some(txn) = self.site.open_txn(n) else {
-                return Ok(Some(listed));
-            };
-            if !list_open(
-                alloc,
-                &mut self.kept,
-                self.site.medium().bytes(),
-                &self.told,
-                last,
-                &mut listed,
-                txn,
-            )? {
-                return Ok(None);
-            }
-        }
-        Ok(None)
+        list_all_open(
+            alloc,
+            &mut self.kept,
+            &self.site,
+            self.site.medium().bytes(),
+            &self.told,
+            last,
+        )
     }
 
     // What is told once this is let go; None where it can't be told.
