@@ -10,7 +10,7 @@ pub mod Rising
 pub mod Links
 pub mod Forgets
 pub mod PastCommits
-pub mod Behind
+pub mod BehindBases
 pub mod HeldKeys
 pub mod Spares
 pub mod ToldMore

@@ -248,5 +248,5 @@ lists_all site held told last n listed so_far none =
 -- what is told where it is listed
 pub lists_if : (held : List ℕ) (told : Option Gone) (last : TxnId) (old new : List ℕ) (txn : TxnId) (is : Bool) → is ≡ true
     → ListsIf held told last old new txn is → ListsOne held told last old new txn
-lists_if held told last old new txn true yes lists = lists
-lists_if held told last old new txn false yes lists = absurd (both false yes refl)
+lists_if held told last old new txn true is_so lists = lists
+lists_if held told last old new txn false is_so lists = absurd (both false is_so refl)

@@ -24,11 +24,11 @@ use site_step::{OpenFault, Site};
 use std::alloc::{AllocError, Global};
 
 // The summary that a record is, or None where it is another.
-fn summary_of(record: Record) -> Option<Summary>
-    ensures some { IfSome result (λ base. summary_record base ≡ record) }
-    ensures none { IfNone result (is_summary record ≡ false) }
+fn summary_of(kept: Record) -> Option<Summary>
+    ensures some { IfSome result (λ base. summary_record base ≡ kept) }
+    ensures none { IfNone result (is_summary kept ≡ false) }
 {
-    match record {
+    match kept {
         Record::Summary {
             epoch,
             rights,
@@ -53,7 +53,7 @@ fn first_base(alloc: Global, records: &[u8]) -> Result<Option<Summary>, AllocErr
     let mut lines = LentRecords::new(alloc, records);
     let line = lines.next_line(alloc)?;
     match line {
-        RecordLine::Record(record) => Ok(summary_of(record)),
+        RecordLine::Record(kept) => Ok(summary_of(kept)),
         RecordLine::NoRecord => Ok(None),
         RecordLine::End => Ok(None),
     }

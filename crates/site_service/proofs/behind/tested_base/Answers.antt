@@ -1,5 +1,5 @@
 use Rattle.std.proofs.Common.{refl}
-use Rattle.site_service.proofs.Behind.{past_one}
+use Rattle.site_service.proofs.BehindBases.{past_one}
 use Rattle.site_service.proofs.behind.tested_base.Goals as goal
 
 pub returns-in_default-clause-line : goal.returns-in_default-clause-line

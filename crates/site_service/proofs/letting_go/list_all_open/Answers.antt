@@ -19,5 +19,5 @@ open-preserved c = record {
   lists = lists_next c.args.site.now c.args.log.now c.args.told.now c.args.last c.open.n c.open.listed.items c.list_open.new.listed.items
       c.in-Some.txn c.open.invariant.lists (sym c.open_txn.ensures.value ∙ c.in-Some.is)
       (lists_if c.args.log.now c.args.told.now c.args.last c.open.listed.items c.list_open.new.listed.items c.in-Some.txn
-      c.in_ok-is_listed.is_listed c.if-not-is_listed.false c.in_ok-is_listed.ensures.lists);
+      c.in_ok-is_listed-in-Some.is_listed c.if-not-is_listed.false c.in_ok-is_listed-in-Some.ensures.lists);
 }

@@ -4,7 +4,7 @@ use Rattle.site_service.specs.Service.{IsTextOf}
 use Rattle.site_service.proofs.KeyedTexts.{whole_lines_are}
 use Rattle.site_service.proofs.Starts.{keeps_all}
 use Rattle.site_service.proofs.Held.{held_medium}
-use Rattle.site_service.proofs.Behind.{early_told}
+use Rattle.site_service.proofs.BehindBases.{early_told}
 use Rattle.site_service.proofs.service.Service.open_behind.Goals as goal
 
 pub start-requires-clause-let_go : goal.start-requires-clause-let_go
