@@ -1,5 +1,5 @@
 use Rattle.std.proofs.Common.{subst}
-use Rattle.std.proofs.lemmas.Result.{MatchResult-weaker}
+use Rattle.std.proofs.lemmas.Result.{IfOk-weaker, MatchResult-weaker}
 use Rattle.site_service.specs.Service.{IsTextOf}
 use Rattle.site_service.proofs.KeyedTexts.{whole_lines_are}
 use Rattle.site_service.proofs.Starts.{keeps_all}
@@ -9,7 +9,7 @@ use Rattle.site_service.proofs.service.Service.open_behind.Goals as goal
 
 pub start-requires-clause-let_go : goal.start-requires-clause-let_go
 start-requires-clause-let_go g c =
-    early_told c.in-Ok.opened.site.gone c.args.told c.epoch-_epoch.ensures.own.some_epoch c.in-Ok.ensures.early
+    early_told c.in-Ok.opened.site.gone c.args.told c.epoch-epoch.ensures.own.some_epoch c.in-Ok.ensures.early
 
 pub start-requires-clause-text : goal.start-requires-clause-text
 start-requires-clause-text g c =
@@ -21,6 +21,20 @@ start-requires-clause-text g c =
       log = lines.4;
       safe = lines.5;
     }
+
+pub returns-in-Ok-clause-ok : goal.returns-in-Ok-clause-ok
+returns-in-Ok-clause-ok g c =
+    let lines = c.in-Ok.ensures.lines in
+    IfOk-weaker c.start.result _ _ (λ made started. record {
+      held = lines.0;
+      last = c.in-Ok.opened.keys.last;
+      records = lines.1;
+      holds = lines.2;
+      opened = c.in-Ok.opened.site;
+      opens = lines.3;
+      is_told = early_told c.in-Ok.opened.site.gone c.args.told c.epoch-epoch.ensures.own.some_epoch c.in-Ok.ensures.early;
+      started = started;
+    }) c.start.ensures.ok
 
 pub returns-in-Ok-clause-safe : goal.returns-in-Ok-clause-safe
 returns-in-Ok-clause-safe g c =
