@@ -1,13 +1,10 @@
 -- What is answered of a commit, by what is held and what is told of what was let go, is right of all records.
-use Rattle.std.proofs.Common.{◌≡◌, ◌||◌, ℕ, Bool, true, false, cond, List, [], ◌++◌, Option, None, Some, refl, sym, ap, ◌∙◌, subst}
+use Rattle.std.proofs.Common.{◌≡◌, ◌||◌, Bool, true, false, [], ◌++◌, Option, None, Some, refl, sym, ap, ◌∙◌, subst}
 use Rattle.std.proofs.lemmas.List.Folds.{list_any-append}
 use Rattle.field_bounds.specs.declared.id.TxnId.{TxnId}
-use Rattle.kept_records.specs.declared.record.Record.{Record}
-use Rattle.kept_records.specs.Logs.{IsLog}
 use Rattle.kept_records.proofs.Lines.{same_log}
 use Rattle.log_head.specs.declared.gone.Gone.{Gone}
 use Rattle.log_head.specs.declared.horizon.CommitAnswer.{CommitAnswer}
-use Rattle.log_head.specs.declared.horizon.CommitAnswer.TheVariants.{Yes, No, Forgotten}
 use Rattle.log_head.specs.Horizons.{HorizonValue, is_passed, answer_of, IsRight}
 use Rattle.site_step.specs.Site.{SiteValue}
 use Rattle.site_step.specs.Shortening.{held_of, is_commit_of, has_commit}

@@ -1,5 +1,5 @@
 -- A site whose log may be shortened goes on, holds whole lines, and only appends; and is as if nothing were gone.
-use Rattle.std.proofs.Common.{◌≡◌, ℕ, ◌+◌, ◌≤◌, List, [], ◌∷◌, ◌++◌, length, drop, Option, Some, refl, sym, ap, ◌∙◌, subst, arith, append_assoc, append-nil}
+use Rattle.std.proofs.Common.{◌≡◌, ℕ, ◌≤◌, List, [], ◌∷◌, ◌++◌, length, drop, refl, sym, ap, ◌∙◌, subst, arith, append_assoc, append-nil}
 use Rattle.std.specs.List.{flat_map, AllByRecursion}
 use Rattle.std.proofs.Math.Seq.{drop-append_seam}
 use Rattle.std.proofs.lemmas.List.{length-append, drop-append-le}
@@ -14,7 +14,7 @@ use Rattle.kept_records.specs.Logs.{IsLog}
 use Rattle.kept_records.specs.Keeping.{IsKept}
 use Rattle.kept_records.proofs.Cursors.{next_in}
 use Rattle.kept_state.specs.Keeps.{adds}
-use Rattle.site_step.specs.Site.{SiteValue, here, Holds, Logs, IsExact, Finds, Applies, Opens}
+use Rattle.site_step.specs.Site.{SiteValue, here, Logs, Finds, Applies, Opens}
 use Rattle.site_step.specs.Shortening.{held_of}
 use Rattle.site_step.proofs.Lasting.{call_is_sure, call_stays}
 use Rattle.site_step.proofs.Lines.{all_stay}

@@ -1,5 +1,5 @@
 -- The keys whose commits are held, gone over one after another.
-use Rattle.std.proofs.Common.{◌≡◌, ◌⊎◌, ◌≤◌, ◌+◌, ℕ, zero, suc, Bool, true, false, cond, ◌||◌, List, [], ◌∷◌, ◌++◌, length, take, slice_get, option_map, Option, Some, None, bytes_eq, refl, sym, ap, ◌∙◌, subst, inl, inr, arith}
+use Rattle.std.proofs.Common.{◌≡◌, ◌⊎◌, ◌≤◌, ℕ, zero, suc, Bool, true, false, cond, ◌||◌, List, [], ◌∷◌, length, take, slice_get, option_map, Option, Some, None, bytes_eq, refl, sym, ap, ◌∙◌, subst, inl, inr}
 use Rattle.std.specs.List.{list_any}
 use Rattle.std.specs.Map.{lookup}
 use Rattle.std.proofs.lemmas.List.{take_all}
@@ -9,7 +9,7 @@ use Rattle.kept_records.specs.declared.record.Record.{Record}
 use Rattle.kept_records.specs.Logs.{IsLog}
 use Rattle.caller_keys.specs.Tables.{stored_of}
 use Rattle.caller_keys.proofs.TableLemmas.{stored_eq}
-use Rattle.site_service.specs.Kept.{LastNotes, last_of, noted, if_committed, TellsKey}
+use Rattle.site_service.specs.Kept.{LastNotes, last_of, if_committed, TellsKey}
 use Rattle.site_service.specs.Index.{IsBehind}
 use Rattle.site_service.specs.Shortening.{KeepsHeldNotes}
 use Rattle.site_service.specs.Shorter.{noted_if, is_seen, last_seen, KeepsSeen}

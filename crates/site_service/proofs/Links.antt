@@ -21,7 +21,7 @@ use Rattle.kept_records.specs.Logs.{IsLog}
 use Rattle.caller_keys.specs.Keys.{KeyNote, note_line, IsKeyed, AreLines, last_txn}
 use Rattle.site_service.specs.declared.kept.KeptCommits.{KeptCommits}
 use Rattle.site_service.specs.Kept.{LastNotes, last_of}
-use Rattle.site_service.specs.LetGo.{LetGo, IsTold, let_go_of, nothing_gone}
+use Rattle.site_service.specs.LetGo.{IsTold, let_go_of, nothing_gone}
 use Rattle.site_service.specs.Index.{IsIndexOf, AreNoteLines, IsBehind, IsFollowed, GoesOn, IsSoundService}
 use Rattle.site_service.proofs.KeyedTexts.{keyed_more, lines_more, some_line}
 use Rattle.site_service.proofs.Held.{held_log, held_goes, tells_whole}

@@ -1,5 +1,5 @@
 -- The commits among the records that a base may stand behind, as `past_of` makes them, are of epoch 0.
-use Rattle.std.proofs.Common.{◌≡◌, ◌⊎◌, ◌≤◌, ◌==◌, ◌&&◌, ◌||◌, ℕ, zero, suc, ◌+◌, ◌-◌, Bool, true, false, cond, List, [], ◌∷◌, ◌++◌, length, Option, Some, None, refl, sym, ap, ◌∙◌, subst, inl, inr, arith}
+use Rattle.std.proofs.Common.{◌≡◌, ◌⊎◌, ◌≤◌, ◌==◌, ◌||◌, ℕ, zero, suc, ◌+◌, Bool, true, false, cond, List, [], ◌∷◌, ◌++◌, length, Option, Some, None, refl, sym, ◌∙◌, inl, inr, arith}
 use Rattle.std.specs.Prelude.{nat_lt}
 use Rattle.std.specs.List.{AllByRecursion}
 use Rattle.std.proofs.lemmas.Bool.{and_parts, eqb-true, lt-ltb}
@@ -11,9 +11,9 @@ use Rattle.field_bounds.specs.Kind.{other}
 use Rattle.kept_records.specs.declared.record.Record.{Record}
 use Rattle.kept_records.specs.declared.record.Record.TheVariants.{Commit, Gift, Accept, Tighten, Restart, Summary}
 use Rattle.kept_records.specs.Summary.{SummaryValue, cut_told}
-use Rattle.kept_records.specs.Stands.{own_in, given_in}
+use Rattle.kept_records.specs.Stands.{own_in}
 use Rattle.log_bases.specs.Bases.{given_told, accepted_told}
-use Rattle.log_bases.specs.Pasts.{commit_of, gift_of, accept_of, tighten_of, short_of_gifts, short_of_accepts, turned, one_gift, one_accept, accept_by, give_by, next, moved, wanted, to_kind, given_up, field_past, fields_past, restarted, past_of}
+use Rattle.log_bases.specs.Pasts.{commit_of, short_of_gifts, short_of_accepts, turned, accept_by, give_by, next, moved, wanted, to_kind, given_up, field_past, fields_past, past_of}
 use Rattle.log_head.specs.Horizons.{HorizonValue, is_passed}
 use Rattle.site_step.specs.Shortening.{is_commit_of, has_commit}
 

@@ -1,28 +1,24 @@
 -- A service whose log was shortened is sound, and serves the same site.
 use Rattle.std.proofs.Common.{◌≡◌, ◌⊎◌, ◌||◌, ℕ, Bool, true, false, List, [], ◌∷◌, ◌++◌, length, take, Option, None, Some, refl, sym, ap, ◌∙◌, subst, inl, inr, arith, append_assoc, append-nil}
-use Rattle.std.specs.List.{flat_map}
 use Rattle.std.proofs.lemmas.List.{take_all}
 use Rattle.std.proofs.lemmas.List.Folds.{list_any-append}
 use Rattle.field_bounds.specs.Schema.{SchemaValue}
-use Rattle.field_bounds.specs.declared.id.TxnId.{TxnId}
 use Rattle.kept_records.specs.declared.record.Record.{Record}
 use Rattle.kept_records.specs.Summary.{summary_record}
-use Rattle.kept_records.specs.Logs.{IsLog}
 use Rattle.kept_records.proofs.Lines.{same_log}
 use Rattle.file_medium.specs.Copies.{IsCopyOf}
-use Rattle.caller_keys.specs.Keys.{KeyNote, note_line, IsKeyed, AreLines, last_txn}
+use Rattle.caller_keys.specs.Keys.{IsKeyed, AreLines, last_txn}
 use Rattle.caller_keys.proofs.Fronts.{notes_alone}
 use Rattle.log_head.specs.declared.gone.Gone.{Gone}
 use Rattle.site_step.specs.Site.{SiteValue}
-use Rattle.site_service.specs.declared.kept.KeptCommits.{KeptCommits}
 use Rattle.site_service.specs.declared.service.shortening.Shorter.{Shorter}
-use Rattle.site_service.specs.LetGo.{IsTold, let_go_of, may_be_gone}
-use Rattle.site_service.specs.Kept.{LastNotes, last_of}
-use Rattle.site_service.specs.Answers.{Served, served_of, whole_of, held_in}
+use Rattle.site_service.specs.LetGo.{IsTold, let_go_of}
+use Rattle.site_service.specs.Kept.{LastNotes}
+use Rattle.site_service.specs.Answers.{served_of}
 use Rattle.site_service.specs.Service.{ServiceValue, value_of, StandsOnHeld, IsTextOf, HoldsText, IsSettled}
 use Rattle.site_service.specs.Index.{IsIndexOf, IsSoundService}
 use Rattle.site_step.specs.Shortening.{ShorteningValue, IsShortening, held_of, is_commit_of, has_commit}
-use Rattle.site_service.specs.Shortening.{HasLetGo, MayLetGo, SparesOpen, LeavesEither}
+use Rattle.site_service.specs.Shortening.{HasLetGo, SparesOpen, LeavesEither}
 use Rattle.site_service.specs.Shorter.{IsShorter}
 use Rattle.site_service.proofs.KeyedTexts.{keyed_more, lines_more}
 use Rattle.site_service.proofs.Held.{held_log}
@@ -68,9 +64,9 @@ module _ (site : SiteValue) (last : LastNotes) (told : Option Gone) (lines : ℕ
     none = λ none. let e : ◌≡◌ {A = Option Gone} (Some shorter.told) None = none in absurd cc;
     horizon = λ txn has. elim (or_parts (has_commit txn site.gone) (has_commit txn plan.gone)
         (sym (list_any-append (is_commit_of txn) site.gone plan.gone) ∙ has)) [
-      | inl before ↦ made.tells.further txn (true_.horizon txn before)
-      | inr now ↦ made.tells.commits txn now
-    ];
+          | inl before ↦ made.tells.further txn (true_.horizon txn before)
+          | inr now ↦ made.tells.commits txn now
+        ];
   }
 
   -- the text of the log

@@ -1,10 +1,9 @@
 -- Up to which transaction a horizon reaches, and which it spares.
-use Rattle.std.proofs.Common.{◌≡◌, ◌⊎◌, ◌<◌, ◌≤◌, ◌==◌, ℕ, Bool, true, false, not, ◌&&◌, ◌||◌, List, [], ◌∷◌, ◌++◌, length, reverse, zero, suc, ◌+◌, slice_get, Option, None, Some, refl, sym, ap, ◌∙◌, subst, inl, inr, arith}
+use Rattle.std.proofs.Common.{◌≡◌, ◌⊎◌, ◌<◌, ◌≤◌, ◌==◌, ℕ, Bool, true, false, not, ◌&&◌, ◌||◌, List, [], ◌∷◌, ◌++◌, reverse, zero, suc, ◌+◌, slice_get, Option, None, Some, refl, sym, ap, ◌∙◌, subst, inl, inr, arith}
 use Rattle.std.specs.Prelude.{nat_lt, nat_le}
 use Rattle.std.proofs.lemmas.Bool.{and_parts, ltb-true, leb-true, eqb-true, lt-ltb, le-leb, eq-eqb, cases_lt}
 use Rattle.std.proofs.lemmas.List.Folds.{list_any-append}
 use Rattle.field_bounds.specs.declared.id.TxnId.{TxnId}
-use Rattle.kept_records.specs.declared.record.Record.{Record}
 use Rattle.kept_records.specs.Keeping.{IsKept}
 use Rattle.log_head.specs.declared.gone.Gone.{Gone}
 use Rattle.log_head.specs.Horizons.{HorizonValue, horizon_of, is_listed, is_passed}
@@ -115,10 +114,14 @@ pub up_passed : (last : TxnId) (listed : List ℕ) (txn : TxnId) → is_up_to la
     → (txn.epoch ≡ last.epoch → is_listed txn.number listed ≡ true → ⊥) → is_passed (horizon_of last.epoch last.number listed) txn ≡ true
 up_passed last listed txn up free = is_passed_by (horizon_of last.epoch last.number listed) txn (elim (up_to last txn up) [
   | inl less ↦ inl less
-  | inr same ↦ inr (same.0, same.1, (elim (is_listed txn.number listed) as (λ b. is_listed txn.number listed ≡ b → b ≡ false) [
-    | true ↦ λ e. absurd (free same.0 e)
-    | false ↦ λ e. refl
-  ] refl))
+  | inr same ↦ inr (
+    same.0,
+    same.1,
+    (elim (is_listed txn.number listed) as (λ b. is_listed txn.number listed ≡ b → b ≡ false) [
+      | true ↦ λ e. absurd (free same.0 e)
+      | false ↦ λ e. refl
+    ] refl),
+  )
 ])
 
 -- ---- one more is listed

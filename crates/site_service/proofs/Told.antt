@@ -13,7 +13,7 @@ use Rattle.site_step.specs.Site.{SiteValue, Applies}
 use Rattle.site_step.specs.Shortening.{held_of}
 use Rattle.log_head.specs.declared.gone.Gone.{Gone}
 use Rattle.site_service.specs.declared.key_answer.KeyAnswer.TheVariants.{Kept}
-use Rattle.site_service.specs.LetGo.{LetGo, let_go_of, commit_answer, key_answer}
+use Rattle.site_service.specs.LetGo.{let_go_of, commit_answer, key_answer}
 use Rattle.site_service.specs.declared.bad_line.BadLine.{BadLine}
 use Rattle.site_service.specs.declared.bad_line.BadLine.TheVariants.{TooLong, OtherSite, UnknownWord, NoField, NoCommand}
 use Rattle.field_bounds.specs.declared.id.TxnId.{TxnId}

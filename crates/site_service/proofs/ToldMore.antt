@@ -8,9 +8,8 @@ use Rattle.field_bounds.specs.declared.id.TxnId.{TxnId}
 use Rattle.kept_records.specs.declared.record.Record.{Record}
 use Rattle.kept_records.specs.Text.{text}
 use Rattle.kept_records.specs.Summary.{summary_record}
-use Rattle.kept_records.specs.Stands.{plain}
 use Rattle.log_head.specs.declared.gone.Gone.{Gone}
-use Rattle.log_head.specs.Horizons.{HorizonValue, horizon_of, is_listed, is_passed}
+use Rattle.log_head.specs.Horizons.{HorizonValue, horizon_of, is_passed}
 use Rattle.site_step.specs.Site.{SiteValue}
 use Rattle.site_service.specs.LetGo.{may_be_gone}
 use Rattle.site_service.specs.Kept.{TellsCommit}

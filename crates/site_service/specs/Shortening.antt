@@ -1,6 +1,6 @@
 -- What a service lets go of its log, and what it tells of it (this project).
 use Rattle.std.specs.Prelude.{◌≡◌, ◌⊎◌, ℕ, ◌+◌, Bool, true, false, List, [], ◌∷◌, ◌++◌, length, reverse, slice_get, Option, None, Some}
-use Rattle.std.specs.List.{flat_map, list_any}
+use Rattle.std.specs.List.{flat_map}
 use Rattle.field_bounds.specs.declared.id.TxnId.{TxnId}
 use Rattle.field_bounds.specs.Effects.{open_txns}
 use Rattle.kept_records.specs.declared.record.Record.{Record}
@@ -12,7 +12,7 @@ use Rattle.site_step.specs.Site.{here}
 use Rattle.log_head.specs.declared.gone.Gone.{Gone}
 use Rattle.log_head.specs.Horizons.{is_passed}
 use Rattle.site_step.specs.Shortening.{has_commit}
-use Rattle.site_service.specs.LetGo.{LetGo, let_go_of, may_be_gone}
+use Rattle.site_service.specs.LetGo.{let_go_of, may_be_gone}
 use Rattle.site_service.specs.Kept.{LastNotes, last_of, if_committed, TellsCommit}
 use Rattle.site_service.specs.Answers.{Served, site_of, held_in}
 use Rattle.site_service.specs.Service.{HoldsText}

@@ -1,5 +1,5 @@
 -- A log that takes the place of a longer one (this project). No public clause cites this module.
-use Rattle.std.specs.Prelude.{◌≡◌, ◌⊎◌, ◌<◌, ℕ, Bool, true, false, List, [], ◌∷◌, ◌++◌, if◌then◌else◌, bytes_eq, slice_get, reverse, take, Option, None, Some}
+use Rattle.std.specs.Prelude.{◌≡◌, ◌<◌, ℕ, Bool, true, false, List, [], ◌++◌, if◌then◌else◌, bytes_eq, slice_get, reverse, take, Option, None, Some}
 use Rattle.std.specs.List.{flat_map, AllByRecursion, list_any}
 use Rattle.field_bounds.specs.declared.id.TxnId.{TxnId}
 use Rattle.field_bounds.specs.Effects.{open_txns}
@@ -14,7 +14,7 @@ use Rattle.site_service.specs.declared.service.shortening.Shorter.{Shorter}
 use Rattle.site_service.specs.LetGo.{may_be_gone}
 use Rattle.site_service.specs.Kept.{LastNotes, last_of, noted, if_committed, TellsCommit}
 use Rattle.site_service.specs.Answers.{Served}
-use Rattle.site_service.specs.Index.{IsIndexOf, IsBehind}
+use Rattle.site_service.specs.Index.{IsIndexOf}
 use Rattle.site_step.specs.Shortening.{ShorteningValue}
 use Rattle.site_service.specs.Shortening.{TellsMore, SparesOpenBy, KeepsHeldNotes}
 

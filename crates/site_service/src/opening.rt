@@ -86,7 +86,11 @@ fn make_safe<F: LogFile>(log: &mut F) -> Result<(), MediumFault>
 
 // Leaves in a log its whole lines alone, of so many bytes, and makes them safe. What was safe of them
 // still is, also at the fault.
-pub(crate) fn keep_lines<F: LogFile>(log: &mut F, whole: usize, torn: bool) -> Result<(), MediumFault>
+pub(crate) fn keep_lines<F: LogFile>(
+    log: &mut F,
+    whole: usize,
+    torn: bool,
+) -> Result<(), MediumFault>
     requires lines { HoldsWhole (F.bytes log.old) whole torn }
     ensures bytes { (held : List ℕ) → HoldsLines (F.bytes log.old) held
         → OnOk result (IsCopyOf (F.bytes log.new) held) }

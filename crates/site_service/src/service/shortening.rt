@@ -34,11 +34,7 @@ pub(crate) struct Shorter {
 
 impl<F: ShortLog> Service<F> {
     // The open transactions that a horizon up to this one has to list; None where it can't.
-    fn open_then(
-        &mut self,
-        alloc: Global,
-        last: TxnId,
-    ) -> Result<Option<Vec<u32>>, AllocError>
+    fn open_then(&mut self, alloc: Global, last: TxnId) -> Result<Option<Vec<u32>>, AllocError>
         requires up { is_up (base_of (site_of self.old.served)) self.old.served.site.history
             ≡ true }
         ensures same { self.new ≡ self.old }
@@ -84,11 +80,7 @@ impl<F: ShortLog> Service<F> {
     }
 
     // The log that takes the place of this one once this is let go; None where its head can't be told.
-    fn shorter(
-        &mut self,
-        alloc: Global,
-        plan: &Shortening,
-    ) -> Result<Option<Shorter>, AllocError>
+    fn shorter(&mut self, alloc: Global, plan: &Shortening) -> Result<Option<Shorter>, AllocError>
         requires plan { IsShortening (site_of self.old.served) plan.now }
         ensures same { self.new ≡ self.old }
         ensures is { IfOk result (λ told. IfSome told (IsShorter self.old.served plan.now)) }

@@ -1,5 +1,5 @@
 -- The first so many keys were gone over.
-use Rattle.std.proofs.Common.{◌≡◌, []}
+use Rattle.std.proofs.Common.{[]}
 use Rattle.kept_records.specs.Keeping.{IsKept}
 use Rattle.site_service.specs.Index.{IsIndexOf, IsBehind}
 use Rattle.site_service.specs.Shorter.{KeepsSeen}

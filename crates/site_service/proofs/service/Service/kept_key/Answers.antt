@@ -1,4 +1,4 @@
-use Rattle.std.proofs.Common.{◌≡◌, List, ℕ, ap, sym, subst, ◌∙◌}
+use Rattle.std.proofs.Common.{◌≡◌, List, ℕ, sym, subst, ◌∙◌}
 use Rattle.kept_records.specs.Keeping.{IsKept}
 use Rattle.site_step.specs.Shortening.{held_of}
 use Rattle.site_service.specs.Kept.{TellsKey, AnswersKey}

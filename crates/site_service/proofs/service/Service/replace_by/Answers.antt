@@ -1,4 +1,4 @@
-use Rattle.std.proofs.Common.{◌≡◌, ℕ, Bool, List, Option, Some, length, sym, ap, ◌∙◌, subst, inl, inr}
+use Rattle.std.proofs.Common.{◌≡◌, Some, length, sym, ap, ◌∙◌, subst, inr}
 use Rattle.file_medium.specs.Copies.{IsCopyOf}
 use Rattle.site_step.specs.Shortening.{IsShortening}
 use Rattle.site_service.specs.Answers.{site_of, served_of}

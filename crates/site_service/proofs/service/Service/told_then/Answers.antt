@@ -1,4 +1,4 @@
-use Rattle.std.proofs.Common.{◌≡◌, true, ℕ, ◌+◌, ◌-◌, List, length, Option, ap, ◌∙◌}
+use Rattle.std.proofs.Common.{◌≡◌, ℕ, ◌+◌, ◌-◌, length, Option, ap, ◌∙◌}
 use Rattle.field_bounds.specs.declared.id.TxnId.{TxnId}
 use Rattle.log_head.specs.declared.gone.Gone.{Gone}
 use Rattle.site_step.specs.Shortening.{is_up_to}
