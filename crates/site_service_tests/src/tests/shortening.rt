@@ -182,7 +182,11 @@ fn assert_holds(rt: &impl Abort, alloc: Global, files: &TwoFiles, parts: &[&str]
 }
 
 /// Shortens a log once its site was opened, and tells what is behind it then.
-fn assert_shortens<F: LogFile + ShortLog>(rt: &impl Abort, alloc: Global, service: &mut Service<F>) {
+fn assert_shortens<F: LogFile + ShortLog>(
+    rt: &impl Abort,
+    alloc: Global,
+    service: &mut Service<F>,
+) {
     assert_eq!(rt; shorten(rt, alloc, service, ""), Ok(()));
     assert_answers(rt, alloc, service, &BEHIND);
 }
@@ -296,9 +300,7 @@ fn assert_failed(rt: &impl Abort, alloc: Global, mishap: PutMishap, left: &str) 
     let mut service = serve_over(rt, alloc, &identity, &mut files);
     assert_eq!(rt; shorten(rt, alloc, &mut service, RESTARTED), Err(Device));
     assert!(rt; service.is_lost());
-    service
-        .answer(alloc, b"0 share stock")
-        .expect(rt, "memory");
+    service.answer(alloc, b"0 share stock").expect(rt, "memory");
     assert_let_out(rt, alloc, &mut service, Err(ServeFault::Device), "");
     drop(service);
     assert_holds(rt, alloc, &files, &[left]);

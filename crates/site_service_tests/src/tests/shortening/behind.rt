@@ -75,7 +75,11 @@ const ROWS: [(&str, Option<FileCall>, Option<OpenFault>); 13] = [
 #[test]
 fn the_first_record_is_a_base(rt: HostRuntime) {
     for (log, call, fault) in &ROWS {
-        assert_eq!(rt; fault_behind(&rt, rt.alloc(), *log, *call), *fault, "at {log}");
+        assert_eq!(rt;
+            fault_behind(&rt, rt.alloc(), *log, *call),
+            *fault,
+            "at {log}"
+        );
     }
 }
 
