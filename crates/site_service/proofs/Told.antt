@@ -20,7 +20,8 @@ use Rattle.field_bounds.specs.declared.id.TxnId.{TxnId}
 use Rattle.entry_text.specs.Ranges.{IdFits}
 use Rattle.site_service.specs.Kept.{LastNotes, TellsCommit, TellsKey, kept_text, kept_words, kept_key_text, kept_key_words}
 use Rattle.site_service.specs.Answers.{Served, served_of, whole_of, IsStill, Asks, AsksCommit, Answered, CarriedOut, LeavesCommand, NotesCommit, CommitsWith, CommittedWithKey, IsBad, bad_text, Passed, LeavesAnswer}
-use Rattle.site_service.specs.Asking.{AsksKey}
+use Rattle.site_service.specs.declared.asking.KeyedCommit.{KeyedCommit}
+use Rattle.site_service.specs.Asking.{AsksKey, SpellsCommit}
 use Rattle.site_service.specs.Service.{Tells, TellsEntry}
 use Rattle.site_service.proofs.Held.{applies_whole, answered_whole}
 
@@ -28,6 +29,11 @@ use Rattle.site_service.proofs.Held.{applies_whole, answered_whole}
 pub any_err : {T E : Type 0} (r : Result T E) (P : Type 0) → P → OnErr r P
 any_err (Ok x) P p = tt
 any_err (Err e) P p = p
+
+-- a commit with a key with another name for the number
+pub spells : (schema : SchemaValue) (number site : SiteNo) (line : List ℕ) (commit : KeyedCommit) → number ≡ site
+    → SpellsCommit schema number line commit → SpellsCommit schema site line commit
+spells schema number site line commit is = subst (λ (n : SiteNo). SpellsCommit schema n line commit) is
 
 -- no is answered where no commit is kept
 none_kept : (told : Option Gone) (since kept : Option TxnId) → key_answer told since kept ≡ No → kept ≡ None
