@@ -231,7 +231,7 @@ module _ (from to before after : Option (List ℕ)) (trace traced : TraceValue) 
   -- more of it was let go, or nothing
   pub serves_shorter : Shortens now.served later.served → later.waiting ≡ now.waiting → IsSettled later
       → ServesPart true from to before after trace traced start later line reads
-  serves_shorter goes same settled = record part {
+  serves_shorter goes same settled = record {
     serves = record {
       read = part.serves.read;
       consumed = part.serves.consumed;
@@ -242,6 +242,8 @@ module _ (from to before after : Option (List ℕ)) (trace traced : TraceValue) 
       settled = settled;
       told = part.serves.told;
     };
+    kept = part.kept;
+    some = part.some;
   }
 
   -- it isn't known whether it was

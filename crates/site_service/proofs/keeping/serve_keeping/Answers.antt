@@ -1,4 +1,4 @@
-use Rattle.std.proofs.Common.{refl, inr, ◌∙◌}
+use Rattle.std.proofs.Common.{true, refl, inr}
 use Rattle.std.proofs.lemmas.Result.{IfErr-weaker}
 use Rattle.site_service.specs.Traces.{trace_of}
 use Rattle.site_service.proofs.Batches.{serves_none, stops_at_first, held_reads, held_not_read, writes_from}

@@ -1,4 +1,4 @@
-use Rattle.site_service.proofs.LessHeld.{shortens_none, shortens_so}
+use Rattle.site_service.proofs.LessHeld.{shortens_so}
 use Rattle.site_service.proofs.keeping.shorten_if_due.Goals as goal
 
 pub returns-clause-shortens : goal.returns-clause-shortens

@@ -1,11 +1,11 @@
-use Rattle.std.proofs.Common.{◌+◌, subst}
+use Rattle.std.proofs.Common.{◌+◌, true, subst}
 use Rattle.std.proofs.lemmas.Result.{err_from_is_err_and}
 use Rattle.site_service.specs.Serving.{ServesOn}
 use Rattle.site_service.proofs.Batches.{serves_shorter, stops_either}
 use Rattle.site_service.proofs.keeping.take_and_shorten.Goals as goal
 
 pub shorten_if_due-requires : goal.shorten_if_due-requires
-shorten_if_due-requires g c = c.in_ok-take_batch.ensures.settled c.if-not-branch.false
+shorten_if_due-requires g c = record { settled = c.in_ok-take_batch.ensures.settled c.if-not-branch.false }
 
 pub returns-in_err-take_batch : goal.returns-in_err-take_batch
 returns-in_err-take_batch g c =

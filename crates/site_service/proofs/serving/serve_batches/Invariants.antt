@@ -1,5 +1,5 @@
 -- Each turn serves a batch.
-use Rattle.std.proofs.Common.{◌≡◌, ◌<◌, [], ℕ, List, Option, vec_len}
+use Rattle.std.proofs.Common.{◌≡◌, ◌<◌, false, [], ℕ, List, Option, vec_len}
 use Rattle.site_service.specs.Service.{ServiceValue}
 use Rattle.site_service.specs.Traces.{TraceValue, trace_of}
 use Rattle.site_service.specs.Serving.{ServesPart}
