@@ -21,6 +21,7 @@ pub mod LastWords
 pub mod Since
 pub mod Told
 pub mod Lines
+pub mod LessHeld
 pub mod Batches
 pub mod Tracing
 pub mod WordFaults

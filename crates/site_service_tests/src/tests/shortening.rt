@@ -10,6 +10,7 @@ use site_folder::Identity;
 
 mod behind;
 mod listed;
+mod serving;
 mod since;
 
 const HEADER: &str =
