@@ -33,9 +33,9 @@ fn base_epoch(alloc: Global, bytes: &[u8]) -> Result<u32, AllocError>
 /// does, and where something is gone a second look at the first line.
 ///
 /// Source: this project.
-pub fn stand_held(alloc: Global, gone: Option<&Gone>, records: &[u8]) -> Result<Stand, AllocError>
-    ensures whole { IfNone gone (IfOk result (IsStandOf records.now)) }
-    ensures behind { IfSome gone (λ gone. IfOk result (IsStandBehind gone.now records.now)) }
+pub fn stand_held(alloc: Global, gone: &Option<Gone>, records: &[u8]) -> Result<Stand, AllocError>
+    ensures whole { IfNone gone.now (IfOk result (IsStandOf records.now)) }
+    ensures behind { IfSome gone.now (λ gone. IfOk result (IsStandBehind gone records.now)) }
 {
     let held = stand_of(alloc, records)?;
     let Some(gone) = gone else {
@@ -57,11 +57,11 @@ pub fn stand_held(alloc: Global, gone: Option<&Gone>, records: &[u8]) -> Result<
 /// Source: this project.
 pub fn count_held(
     alloc: Global,
-    gone: Option<&Gone>,
+    gone: &Option<Gone>,
     records: &[u8],
 ) -> Result<LogCount, AllocError>
-    ensures whole { IfNone gone (IfOk result (IsCountOf records.now)) }
-    ensures behind { IfSome gone (λ gone. IfOk result (IsCountBehind gone.now records.now)) }
+    ensures whole { IfNone gone.now (IfOk result (IsCountOf records.now)) }
+    ensures behind { IfSome gone.now (λ gone. IfOk result (IsCountBehind gone records.now)) }
 {
     let held = count_log(alloc, records)?;
     let Some(gone) = gone else {

@@ -29,12 +29,12 @@ pub fn replay_held(
     alloc: Global,
     schema: &Schema,
     site: SiteNo,
-    gone: Option<&Gone>,
+    gone: &Option<Gone>,
     records: &[u8],
 ) -> Result<LogReplayed, AllocError>
     requires site_in { site.0 < schema.now.sites }
-    ensures whole { IfNone gone (IfOk result (TellsFirst schema.now site.0 records.now)) }
-    ensures behind { IfSome gone (λ _. IfOk result (TellsBehind schema.now site.0 records.now)) }
+    ensures whole { IfNone gone.now (IfOk result (TellsFirst schema.now site.0 records.now)) }
+    ensures behind { IfSome gone.now (λ _. IfOk result (TellsBehind schema.now site.0 records.now)) }
 {
     match gone {
         Some(_) => replay_behind(alloc, schema, site, records),

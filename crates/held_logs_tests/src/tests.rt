@@ -24,12 +24,12 @@ fn identity(rt: &impl Abort, alloc: Global) -> Identity {
 }
 
 /// So many bytes and records are gone, up to a horizon that nobody asks for here.
-fn gone(rt: &impl Abort, alloc: Global, bytes: u64, records: u64) -> Gone {
-    Gone {
+fn gone(rt: &impl Abort, alloc: Global, bytes: u64, records: u64) -> Option<Gone> {
+    Some(Gone {
         bytes,
         records,
         horizon: Horizon::new(7, 1_000_431, Vec::new(alloc)).expect(rt, "a horizon"),
-    }
+    })
 }
 
 /// The texts, one behind another.

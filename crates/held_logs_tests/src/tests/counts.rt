@@ -7,14 +7,14 @@ use std::alloc::Global;
 use std::process::Abort;
 
 /// How far the lines of these texts have come: the epoch, and the length.
-fn stood(rt: &impl Abort, alloc: Global, gone: Option<&Gone>, texts: &[&str]) -> (u64, u64) {
+fn stood(rt: &impl Abort, alloc: Global, gone: &Option<Gone>, texts: &[&str]) -> (u64, u64) {
     let records = joined(rt, alloc, texts);
     let Stand { epoch, length } = stand_held(alloc, gone, records.as_slice()).expect(rt, "memory");
     (epoch, length)
 }
 
 /// How many records the lines of these texts have.
-fn counted(rt: &impl Abort, alloc: Global, gone: Option<&Gone>, texts: &[&str]) -> LogCount {
+fn counted(rt: &impl Abort, alloc: Global, gone: &Option<Gone>, texts: &[&str]) -> LogCount {
     let records = joined(rt, alloc, texts);
     count_held(alloc, gone, records.as_slice()).expect(rt, "memory")
 }
@@ -40,7 +40,7 @@ fn what_is_gone_counts_with_what_is_held(rt: HostRuntime) {
     let gone = gone(&rt, alloc, 16_000_123, 1_000_000);
     for (lines, epoch, length, plain, bad_line) in &BEHIND {
         assert_eq!(rt;
-            stood(&rt, alloc, Some(&gone), &[BASE, *lines]),
+            stood(&rt, alloc, &gone, &[BASE, *lines]),
             (*epoch, 16_000_123 + *length as u64),
             "{lines}"
         );
@@ -50,7 +50,7 @@ fn what_is_gone_counts_with_what_is_held(rt: HostRuntime) {
             bad_line: *bad_line,
         };
         assert_eq!(rt;
-            counted(&rt, alloc, Some(&gone), &[BASE, *lines]),
+            counted(&rt, alloc, &gone, &[BASE, *lines]),
             expected,
             "{lines}"
         );
@@ -62,42 +62,42 @@ fn what_is_gone_counts_with_what_is_held(rt: HostRuntime) {
 fn the_first_line_alone_is_a_base(rt: HostRuntime) {
     let alloc = rt.alloc();
     let gone = gone(&rt, alloc, 100, 7);
-    assert_eq!(rt; stood(&rt, alloc, Some(&gone), &[""]), (0, 100));
-    assert_eq!(rt; stood(&rt, alloc, Some(&gone), &["R 3\n", BASE]), (3, 126));
-    assert_eq!(rt; stood(&rt, alloc, Some(&gone), &["x\n", BASE]), (0, 100));
+    assert_eq!(rt; stood(&rt, alloc, &gone, &[""]), (0, 100));
+    assert_eq!(rt; stood(&rt, alloc, &gone, &["R 3\n", BASE]), (3, 126));
+    assert_eq!(rt; stood(&rt, alloc, &gone, &["x\n", BASE]), (0, 100));
     let none = LogCount {
         plain: 7,
         length: 0,
         bad_line: None,
     };
-    assert_eq!(rt; counted(&rt, alloc, Some(&gone), &["R 3"]), none);
+    assert_eq!(rt; counted(&rt, alloc, &gone, &["R 3"]), none);
 }
 
 #[test]
 fn where_nothing_is_gone_a_summary_tells_nothing(rt: HostRuntime) {
     let alloc = rt.alloc();
-    assert_eq!(rt; stood(&rt, alloc, None, &[BASE]), (0, 22));
-    assert_eq!(rt; stood(&rt, alloc, None, &["R 3\n", BASE, "R 4"]), (3, 26));
+    assert_eq!(rt; stood(&rt, alloc, &None, &[BASE]), (0, 22));
+    assert_eq!(rt; stood(&rt, alloc, &None, &["R 3\n", BASE, "R 4"]), (3, 26));
     let two = LogCount {
         plain: 1,
         length: 26,
         bad_line: None,
     };
-    assert_eq!(rt; counted(&rt, alloc, None, &["R 3\n", BASE]), two);
+    assert_eq!(rt; counted(&rt, alloc, &None, &["R 3\n", BASE]), two);
 }
 
 #[test]
 fn no_number_is_above_64_bits(rt: HostRuntime) {
     let alloc = rt.alloc();
     let most = gone(&rt, alloc, u64::MAX, u64::MAX);
-    assert_eq!(rt; stood(&rt, alloc, Some(&most), &[BASE]), (7, u64::MAX));
+    assert_eq!(rt; stood(&rt, alloc, &most, &[BASE]), (7, u64::MAX));
     let one = LogCount {
         plain: usize::MAX,
         length: 26,
         bad_line: None,
     };
-    assert_eq!(rt; counted(&rt, alloc, Some(&most), &[BASE, "R 8\n"]), one);
+    assert_eq!(rt; counted(&rt, alloc, &most, &[BASE, "R 8\n"]), one);
     let less = gone(&rt, alloc, u64::MAX - 22, u64::MAX - 1);
-    assert_eq!(rt; stood(&rt, alloc, Some(&less), &[BASE]), (7, u64::MAX));
-    assert_eq!(rt; counted(&rt, alloc, Some(&less), &[BASE, "R 8\n"]), one);
+    assert_eq!(rt; stood(&rt, alloc, &less, &[BASE]), (7, u64::MAX));
+    assert_eq!(rt; counted(&rt, alloc, &less, &[BASE, "R 8\n"]), one);
 }

@@ -38,7 +38,7 @@ fn told(standing: &Standing, length: usize) -> Came
 }
 
 /// What the lines of these texts come to, of which this is gone.
-fn replayed(rt: &impl Abort, alloc: Global, gone: Option<&Gone>, texts: &[&str]) -> Came {
+fn replayed(rt: &impl Abort, alloc: Global, gone: &Option<Gone>, texts: &[&str]) -> Came {
     let identity = identity(rt, alloc);
     let records = joined(rt, alloc, texts);
     let schema = identity.schema();
@@ -88,7 +88,7 @@ fn lines_behind_a_base_come_to_what_they_stand_for(rt: HostRuntime) {
     let alloc = rt.alloc();
     let gone = gone(&rt, alloc, 16_000_123, 1_000_000);
     for (lines, expected) in &BEHIND {
-        let came = replayed(&rt, alloc, Some(&gone), &[BASE, *lines]);
+        let came = replayed(&rt, alloc, &gone, &[BASE, *lines]);
         assert_eq!(rt; came, *expected, "{lines}");
     }
 }
@@ -120,7 +120,7 @@ fn lines_that_begin_with_no_base_are_refused_at_the_first(rt: HostRuntime) {
     let alloc = rt.alloc();
     let gone = gone(&rt, alloc, 16_000_123, 1_000_000);
     for (lines, expected) in &NO_BASES {
-        let came = replayed(&rt, alloc, Some(&gone), &[*lines]);
+        let came = replayed(&rt, alloc, &gone, &[*lines]);
         assert_eq!(rt; came, *expected, "{lines}");
     }
 }
@@ -143,6 +143,10 @@ const WHOLE: [(&str, Came); 7] = [
 fn whole_logs_come_to_what_they_stand_for(rt: HostRuntime) {
     let alloc = rt.alloc();
     for (lines, expected) in &WHOLE {
-        assert_eq!(rt; replayed(&rt, alloc, None, &[*lines]), *expected, "{lines}");
+        assert_eq!(rt;
+            replayed(&rt, alloc, &None, &[*lines]),
+            *expected,
+            "{lines}"
+        );
     }
 }
