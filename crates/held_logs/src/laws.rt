@@ -1,10 +1,21 @@
 //! Laws of what a file holds, each as the contract of a function that does nothing.
 
-ghost use Rattle.std.specs.Prelude.{ℕ, List};
+ghost use Rattle.std.specs.Prelude.{◌≡◌, ◌++◌, ◌∷◌, ℕ, List, length};
+ghost use Rattle.std.specs.List.{flat_map};
 ghost use Rattle.field_bounds.specs.Schema.{SchemaValue};
+ghost use Rattle.kept_records.specs.declared.record.Record.{Record as Kept};
+ghost use Rattle.kept_records.specs.declared.counting.LogCount.{LogCount as Count};
+ghost use Rattle.kept_records.specs.Logs.{IsLog};
+ghost use Rattle.kept_records.specs.Stands.{greatest, plain};
+ghost use Rattle.kept_records.specs.Summary.{SummaryValue, summary_record};
+ghost use Rattle.kept_records.specs.Text.{text};
 ghost use Rattle.log_replay.specs.declared.standing.Standing.{Standing};
 ghost use Rattle.log_replay.specs.LogBytes.{ComesTo};
+ghost use Rattle.log_stand.specs.declared.stand.Stand.{Stand as StandValue};
+ghost use Rattle.log_bases.specs.Bases.{IsPast};
+ghost use Rattle.log_head.specs.declared.gone.Gone.{Gone as GoneValue};
 ghost use Rattle.held_logs.specs.Behind.{ComesFrom, IsForLog};
+ghost use Rattle.held_logs.specs.Counts.{IsCountBehind, IsStandBehind, told_number};
 
 /// A standing that `replay_held` tells is for lawful records of a site: where nothing is gone, for
 /// those that are held (`whole`), and else for a past of the base and those behind it (`behind`). It
@@ -16,4 +27,25 @@ pub fn held_standings_are_for_logs()
         → ComesTo schema s bytes standing n → IsForLog schema s standing }
     ensures behind { (schema : SchemaValue) (s : ℕ) (bytes : List ℕ) (standing : Standing) (n : ℕ)
         → ComesFrom schema s bytes standing n → IsForLog schema s standing }
+{}
+
+/// Where a log holds a base and some records behind it, and its head tells rightly how many bytes and
+/// records are gone, `stand_held` and `count_held` tell of it what is true of all its records, those
+/// that are gone included: the epoch of the last restart (`epoch`), how long they are (`length`), and
+/// how many are no summaries (`plain`).
+///
+/// Source: this project.
+pub fn what_is_gone_counts_with_what_is_held()
+    ensures epoch { (schema : SchemaValue) (s : ℕ) (base : SummaryValue) (past rs : List Kept)
+        (rest held : List ℕ) (gone : GoneValue) (stand : StandValue) → IsPast schema s base past
+        → IsLog held (summary_record base ∷ rs) rest → IsStandBehind gone held stand
+        → stand.epoch ≡ greatest (past ++ (summary_record base ∷ rs)) }
+    ensures length { (past rs : List Kept) (rest held : List ℕ) (gone : GoneValue)
+        (stand : StandValue) → IsLog held rs rest → IsStandBehind gone held stand
+        → gone.bytes ≡ length (flat_map text past)
+        → stand.length ≡ told_number (length (flat_map text (past ++ rs))) }
+    ensures plain { (past rs : List Kept) (rest held : List ℕ) (gone : GoneValue)
+        (count : Count) → IsLog held rs rest → IsCountBehind gone held count
+        → gone.records ≡ length (plain past)
+        → count.plain ≡ told_number (length (plain (past ++ rs))) }
 {}

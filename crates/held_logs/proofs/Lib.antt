@@ -1,0 +1,4 @@
+pub mod Firsts
+pub mod Taken
+pub mod Heads
+pub mod Whole
