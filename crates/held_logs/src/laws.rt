@@ -31,8 +31,8 @@ pub fn held_standings_are_for_logs()
 
 /// Where a log holds a base and some records behind it, and its head tells rightly how many bytes and
 /// records are gone, `stand_held` and `count_held` tell of it what is true of all its records, those
-/// that are gone included: the epoch of the last restart (`epoch`), how long they are (`length`), and
-/// how many are no summaries (`plain`).
+/// that are gone included: the epoch of the last restart (`epoch`), how long they are (`size`), and
+/// how many are no summaries (`others`).
 ///
 /// Source: this project.
 pub fn what_is_gone_counts_with_what_is_held()
@@ -40,11 +40,11 @@ pub fn what_is_gone_counts_with_what_is_held()
         (rest held : List ℕ) (gone : GoneValue) (stand : StandValue) → IsPast schema s base past
         → IsLog held (summary_record base ∷ rs) rest → IsStandBehind gone held stand
         → stand.epoch ≡ greatest (past ++ (summary_record base ∷ rs)) }
-    ensures length { (past rs : List Kept) (rest held : List ℕ) (gone : GoneValue)
+    ensures size { (past rs : List Kept) (rest held : List ℕ) (gone : GoneValue)
         (stand : StandValue) → IsLog held rs rest → IsStandBehind gone held stand
         → gone.bytes ≡ length (flat_map text past)
         → stand.length ≡ told_number (length (flat_map text (past ++ rs))) }
-    ensures plain { (past rs : List Kept) (rest held : List ℕ) (gone : GoneValue)
+    ensures others { (past rs : List Kept) (rest held : List ℕ) (gone : GoneValue)
         (count : Count) → IsLog held rs rest → IsCountBehind gone held count
         → gone.records ≡ length (plain past)
         → count.plain ≡ told_number (length (plain (past ++ rs))) }

@@ -4,6 +4,6 @@ use Rattle.held_logs.proofs.laws.what_is_gone_counts_with_what_is_held.Goals as 
 pub returns : goal.returns
 returns c = record {
   epoch = λ schema s base past rs rest held gone stand is log behind. stand_epoch schema s base past rs rest held gone stand is log behind;
-  length = λ past rs rest held gone stand log behind told. stand_length past rs rest held gone log stand behind told;
-  plain = λ past rs rest held gone count log behind told. count_plain past rs rest held gone log count behind told;
+  size = λ past rs rest held gone stand log behind told. stand_length past rs rest held gone log stand behind told;
+  others = λ past rs rest held gone count log behind told. count_plain past rs rest held gone log count behind told;
 }
