@@ -2,22 +2,19 @@
 use Rattle.std.proofs.Common.{◌≡◌, ℕ, true, false, eqb, List, [], ◌∷◌, ◌++◌, drop, Option, Some, None, refl, sym, ap, subst, ◌∙◌, inl, inr, append_assoc}
 use Rattle.std.specs.List.{flat_map, list_any, AllByRecursion}
 use Rattle.std.proofs.lemmas.Bool.{false≢true}
-use Rattle.std.proofs.lemmas.List.{take-append-drop}
-use Rattle.std.proofs.lemmas.Option.{same_Some}
-use Rattle.line_words.specs.Words.{words}
+use Rattle.std.proofs.lemmas.List.{append-nil, take-append-drop}
 use Rattle.kept_records.specs.declared.record.Record.{Record}
 use Rattle.kept_records.specs.declared.record.Record.TheVariants.{Commit, Gift, Accept, Tighten, Restart, Summary}
 use Rattle.kept_records.specs.declared.counting.LogCount.{LogCount}
 use Rattle.kept_records.specs.Counting.{IsCountOf}
 use Rattle.kept_records.specs.Lines.{IsRecordAt}
 use Rattle.kept_records.specs.Logs.{Reads, AreGoodRecords}
-use Rattle.kept_records.specs.Reading.{record_of}
 use Rattle.kept_records.specs.Stands.{is_summary}
 use Rattle.kept_records.specs.Summary.{summary_record}
 use Rattle.kept_records.specs.Text.{text, IsRecord}
 use Rattle.kept_records.proofs.Bytes.{one_cut}
 use Rattle.kept_records.proofs.Cursors.{has_lf}
-use Rattle.kept_records.proofs.Lines.{body, body_without, body_again, regrouped}
+use Rattle.kept_records.proofs.Lines.{body, body_without, begins, regrouped}
 use Rattle.held_logs.specs.declared.first_line.FirstLine.{FirstLine}
 use Rattle.held_logs.specs.declared.first_line.FirstLine.TheVariants as first
 use Rattle.held_logs.specs.Behind.{HasNoFirst, IsFirst}
@@ -39,7 +36,7 @@ pub same_first : (bytes : List ℕ) (r s : Record) (new more : List ℕ) → IsR
 same_first bytes r s new more at other =
     let same = one_cut 10 (body r) (body s) new more (body_without r at.fits) (body_without s other.fits)
     (sym (regrouped r new) ∙ sym at.parts ∙ other.parts ∙ regrouped s more) in
-    same_Some r s (sym (body_again r at.fits) ∙ ap (λ (l : List ℕ). record_of (words l)) same.front ∙ body_again s other.fits)
+    (begins r s [] at.fits other.fits (ap (λ (l : List ℕ). l ++ 10 ∷ []) (sym same.front) ∙ sym (append-nil (text r)))).0
 
 first_at : (bytes : List ℕ) (s : Record) (ss : List Record) (left : List ℕ) → bytes ≡ flat_map text (s ∷ ss) ++ left → IsRecord s
     → IsRecordAt bytes s (flat_map text ss ++ left)

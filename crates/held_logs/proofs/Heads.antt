@@ -1,5 +1,5 @@
 -- What stands behind the head of a log.
-use Rattle.std.proofs.Common.{◌≡◌, ℕ, List, ◌++◌, length, take, drop, refl, sym, ap, subst, ◌∙◌}
+use Rattle.std.proofs.Common.{◌≡◌, ℕ, List, ◌++◌, length, take, drop, sym, ap, subst, ◌∙◌, ◌⊎◌, inl, inr}
 use Rattle.std.proofs.lemmas.List.{take_at, take-append-drop}
 use Rattle.site_folder.specs.Identity.{IdentityValue}
 use Rattle.log_head.specs.declared.gone.Gone.{Gone}
@@ -33,13 +33,10 @@ pub short_front : (v : IdentityValue) (bytes : List ℕ) (head : Head) (n : ℕ)
 short_front v bytes head n gone begins same is =
     front_by v bytes head.kind n begins.rest gone begins.bytes_are (sym same ∙ begins.length_is) begins.kind is
 
--- bytes that begin with no name of version 1 or 2 begin with a head of no other version
-other_by : (v : IdentityValue) (bytes : List ℕ) (kind : HeadKind) (rest : List ℕ) → IsOtherLog v bytes → bytes ≡ head_text v kind ++ rest
-    → ((gone : Gone) → kind ≡ Shortened gone → ⊥) → ⊥
-other_by v bytes Plain rest other parts apart = other.plain rest parts
-other_by v bytes Sealed rest other parts apart = other.sealed rest parts
-other_by v bytes (Shortened gone) rest other parts apart = apart gone refl
-
+-- bytes that begin with no name of version 1 or 2 begin with no head of them
 pub other_head : (v : IdentityValue) (bytes : List ℕ) (head : Head) → IsOtherLog v bytes → BeginsWith v bytes head
-    → ((gone : Gone) → head.kind ≡ Shortened gone → ⊥) → ⊥
-other_head v bytes head other begins apart = other_by v bytes head.kind begins.rest other begins.bytes_are apart
+    → (head.kind ≡ Plain) ⊎ (head.kind ≡ Sealed) → ⊥
+other_head v bytes head other begins (inl is) =
+    other.plain begins.rest (begins.bytes_are ∙ ap (λ (kind : HeadKind). head_text v kind ++ begins.rest) is)
+other_head v bytes head other begins (inr is) =
+    other.sealed begins.rest (begins.bytes_are ∙ ap (λ (kind : HeadKind). head_text v kind ++ begins.rest) is)

@@ -24,6 +24,22 @@ fn base_epoch(alloc: Global, bytes: &[u8]) -> Result<u32, AllocError>
     }
 }
 
+// How far a log has come of which this is gone, and the records that are held have come so far.
+fn stand_behind(
+    alloc: Global,
+    gone: &Gone,
+    held: Stand,
+    records: &[u8],
+) -> Result<Stand, AllocError>
+    requires held { IsStandOf records.now held }
+    ensures stand { IfOk result (IsStandBehind gone.now records.now) }
+{
+    let told = u64::from(base_epoch(alloc, records)?);
+    let epoch = held.epoch.max(told);
+    let length = gone.bytes.saturating_add(held.length);
+    Ok(Stand { epoch, length })
+}
+
 /// How far a log has come of which this is gone, and these are the records that are held. Where
 /// nothing is gone it is what `stand_of` answers (`whole`). Else the epoch is that of the last restart
 /// behind the base, or where there is none that which the base tells; and the length is that of all
@@ -38,14 +54,10 @@ pub fn stand_held(alloc: Global, gone: &Option<Gone>, records: &[u8]) -> Result<
     ensures behind { IfSome gone.now (λ gone. IfOk result (IsStandBehind gone records.now)) }
 {
     let held = stand_of(alloc, records)?;
-    let Some(gone) = gone else {
-        return Ok(held);
-    };
-    let epoch = u64::from(base_epoch(alloc, records)?);
-    Ok(Stand {
-        epoch: held.epoch.max(epoch),
-        length: gone.bytes.saturating_add(held.length),
-    })
+    match gone {
+        Some(gone) => stand_behind(alloc, gone, held, records),
+        None => Ok(held),
+    }
 }
 
 /// Counts the records of a log of which this is gone, and these are the records that are held. Where

@@ -2,6 +2,8 @@
 
 ghost use Rattle.std.specs.Prelude.{◌≡◌, ◌+◌, ◌<◌, ◌^◌, IfOk, IfErr};
 ghost use Rattle.sealed_text.specs.Seals.{IsRefused, lines_of};
+ghost use Rattle.log_head.specs.Heads.{BeginsWith};
+ghost use Rattle.log_head.specs.declared.gone.HeadKind.TheVariants.{Shortened};
 ghost use Rattle.folder_logs.specs.Files.{IsDamagedLog, IsOtherLog, bytes_of};
 ghost use Rattle.held_logs.specs.Held.{Holds, HoldsBatches, IsHeldFault};
 
@@ -48,6 +50,33 @@ fn records_in(alloc: Global, text: &[u8]) -> Result<Vec<u8>, TextFault>
     Ok(records)
 }
 
+// What the file of a log holds of which the head, so long, tells this to be gone.
+fn held_behind<'a>(
+    alloc: Global,
+    _identity: &Identity,
+    bytes: &'a [u8],
+    length: usize,
+    gone: Gone,
+) -> Result<HeldLog<'a>, HeldFault>
+    requires begins { BeginsWith _identity.now bytes.now
+        (record { kind = Shortened gone; length = length }) }
+    ensures held { IfOk result (λ held. Holds _identity.now bytes.now held.gone
+        (bytes_of held.records)) }
+    ensures fault { IfErr result (IsHeldFault _identity.now bytes.now) }
+{
+    let (head, text) = bytes.split_at(length);
+    match records_in(alloc, text) {
+        Ok(records) => Ok(HeldLog {
+            gone: Some(gone),
+            records: Records::Taken(records),
+        }),
+        Err(TextFault::Damaged { line }) => Err(HeldFault::Damaged {
+            line: damaged_behind(head, line),
+        }),
+        Err(TextFault::NoMemory) => Err(HeldFault::NoMemory),
+    }
+}
+
 // What the file of a log of version 3 holds.
 fn read_shortened<'a>(
     alloc: Global,
@@ -60,19 +89,9 @@ fn read_shortened<'a>(
     ensures fault { IfErr result (IsHeldFault identity.now bytes.now) }
 {
     let Head { kind, length } = read_head(alloc, identity, bytes)?;
-    let HeadKind::Shortened(gone) = kind else {
-        unreachable!();
-    };
-    let (head, text) = bytes.split_at(length);
-    match records_in(alloc, text) {
-        Ok(records) => Ok(HeldLog {
-            gone: Some(gone),
-            records: Records::Taken(records),
-        }),
-        Err(TextFault::Damaged { line }) => Err(HeldFault::Damaged {
-            line: damaged_behind(head, line),
-        }),
-        Err(TextFault::NoMemory) => Err(HeldFault::NoMemory),
+    match kind {
+        HeadKind::Shortened(gone) => held_behind(alloc, identity, bytes, length, gone),
+        HeadKind::Plain | HeadKind::Sealed => unreachable!(),
     }
 }
 
