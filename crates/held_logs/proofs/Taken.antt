@@ -1,10 +1,10 @@
 -- Records that are taken in behind a base, whichever past it has.
-use Rattle.std.proofs.Common.{◌≡◌, ℕ, ◌+◌, ◌-◌, true, false, List, [], ◌∷◌, ◌++◌, length, None, refl, sym, ap, subst, ◌∙◌, arith, append_assoc}
+use Rattle.std.proofs.Common.{◌≡◌, ℕ, ◌+◌, ◌-◌, true, false, List, [], ◌∷◌, ◌++◌, length, refl, sym, ap, subst, ◌∙◌, arith, append_assoc}
 use Rattle.std.specs.List.{flat_map}
 use Rattle.std.proofs.lemmas.List.{length-append}
 use Rattle.field_bounds.specs.Schema.{SchemaValue}
 use Rattle.kept_records.specs.declared.record.Record.{Record}
-use Rattle.kept_records.specs.Lines.{IsRecordAt, StartsBad, Begins}
+use Rattle.kept_records.specs.Lines.{IsRecordAt, StartsBad}
 use Rattle.kept_records.specs.Logs.{HasNoLf}
 use Rattle.kept_records.specs.Stands.{Lawful}
 use Rattle.kept_records.specs.Summary.{SummaryValue, summary_record}

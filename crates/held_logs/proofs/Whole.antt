@@ -1,6 +1,6 @@
 -- What is gone and what is held, as one log.
-use Rattle.std.proofs.Common.{◌≡◌, ℕ, ◌+◌, max, true, not, List, [], ◌∷◌, ◌++◌, length, Option, Some, None, refl, sym, ap, subst, ◌∙◌, arith, length-append}
-use Rattle.std.specs.Prelude.{fold, filter}
+use Rattle.std.proofs.Common.{◌≡◌, ℕ, ◌+◌, max, not, List, [], ◌∷◌, ◌++◌, length, Option, Some, None, sym, ap, subst, ◌∙◌, arith, length-append}
+use Rattle.std.specs.Prelude.{fold}
 use Rattle.std.specs.List.{flat_map}
 use Rattle.std.proofs.lemmas.List.Concat.{flat_map-append}
 use Rattle.std.proofs.lemmas.List.Elements.{filter-append}
