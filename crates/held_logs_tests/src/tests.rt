@@ -5,7 +5,6 @@ mod counts;
 mod files;
 mod replays;
 
-use field_bounds::{Schema, SiteNo};
 use log_head::{Gone, Horizon};
 use site_folder::Identity;
 use std::alloc::Global;

@@ -19,45 +19,53 @@ fn counted(rt: &impl Abort, alloc: Global, gone: &Option<Gone>, texts: &[&str]) 
     count_held(alloc, gone, records.as_slice()).expect(rt, "memory")
 }
 
-/// Lines behind the base: the epoch, how many bytes the records have with it, how many they are
-/// without summaries, and the line that is none.
-const BEHIND: [(&str, u64, usize, usize, Option<u64>); 9] = [
-    ("", 7, 22, 0, None),
-    ("R 8", 7, 22, 0, None),
-    ("R 8\n", 8, 26, 1, None),
-    ("C 7 1 0 -3\n", 7, 33, 1, None),
-    ("R 8\nC 8 1 0 -3\nR 9\nC 9", 9, 41, 3, None),
-    ("C 7 1 0 -2\nS 7 1 10 35 g 0 0 l 5\nR 8\n", 8, 59, 2, None),
-    ("R 8\nx\nR 9\n", 8, 26, 1, Some(3)),
-    ("x\nR 8\n", 7, 22, 0, Some(2)),
+/// Lines behind the base: the epoch, and the length with what is gone; how many records without
+/// summaries those are, how many bytes those that are held, and the line that is none.
+const BEHIND: [(&str, u64, u64, usize, usize, Option<u64>); 9] = [
+    ("", 7, 16_000_145, 1_000_000, 22, None),
+    ("R 8", 7, 16_000_145, 1_000_000, 22, None),
+    ("R 8\n", 8, 16_000_149, 1_000_001, 26, None),
+    ("C 7 1 0 -3\n", 7, 16_000_156, 1_000_001, 33, None),
+    (
+        "R 8\nC 8 1 0 -3\nR 9\nC 9",
+        9,
+        16_000_164,
+        1_000_003,
+        41,
+        None,
+    ),
+    (
+        "C 7 1 0 -2\nS 7 1 10 35 g 0 0 l 5\nR 8\n",
+        8,
+        16_000_182,
+        1_000_002,
+        59,
+        None,
+    ),
+    ("R 8\nx\nR 9\n", 8, 16_000_149, 1_000_001, 26, Some(3)),
+    ("x\nR 8\n", 7, 16_000_145, 1_000_000, 22, Some(2)),
     // No rule is tested here.
-    ("R 6\n", 7, 26, 1, None),
+    ("R 6\n", 7, 16_000_149, 1_000_001, 26, None),
 ];
 
 #[test]
 fn what_is_gone_counts_with_what_is_held(rt: HostRuntime) {
     let alloc = rt.alloc();
     let gone = gone(&rt, alloc, 16_000_123, 1_000_000);
-    for (lines, epoch, length, plain, bad_line) in &BEHIND {
-        assert_eq!(rt;
-            stood(&rt, alloc, &gone, &[BASE, *lines]),
-            (*epoch, 16_000_123 + *length as u64),
-            "{lines}"
-        );
+    for (lines, epoch, far, plain, length, bad_line) in &BEHIND {
+        let stood = stood(&rt, alloc, &gone, &[BASE, *lines]);
+        assert_eq!(rt; stood, (*epoch, *far), "{lines}");
         let expected = LogCount {
-            plain: 1_000_000 + *plain,
+            plain: *plain,
             length: *length,
             bad_line: *bad_line,
         };
-        assert_eq!(rt;
-            counted(&rt, alloc, &gone, &[BASE, *lines]),
-            expected,
-            "{lines}"
-        );
+        let counted = counted(&rt, alloc, &gone, &[BASE, *lines]);
+        assert_eq!(rt; counted, expected, "{lines}");
     }
 }
 
-/// Lines that begin with no base.
+// A summary behind the first line tells no epoch.
 #[test]
 fn the_first_line_alone_is_a_base(rt: HostRuntime) {
     let alloc = rt.alloc();

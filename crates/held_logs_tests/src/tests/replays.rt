@@ -1,15 +1,13 @@
-ghost use Rattle.std.specs.Prelude.{◌<◌, ℕ, List, length};
-ghost use Rattle.kept_records.specs.declared.record.Record.{Record as Kept};
-ghost use Rattle.log_replay.specs.Standing.{IsStandingFor};
+ghost use Rattle.std.specs.Prelude.{◌<◌, length};
+ghost use Rattle.gift_ledger.specs.Ledger.{IsSlot};
 
-use super::{BASE, gone, identity, joined};
+use super::{BASE, HEADER, gone, joined};
 use field_bounds::{FieldNo, Kind, SiteNo};
 use held_logs::replay_held;
 use log_head::Gone;
 use log_replay::{LogReplayed, Standing};
 use site_folder::Identity;
 use std::alloc::Global;
-use std::process::Abort;
 
 const STOCK: FieldNo = FieldNo(0);
 
@@ -26,6 +24,7 @@ enum Came {
 /// What is told of a standing of site 1.
 fn told(standing: &Standing, length: usize) -> Came
     requires stock { 0 < length standing.now.rights }
+    requires place { IsSlot standing.now.ledger 0 0 }
 {
     let rights = &standing.rights;
     Came::Stands(
@@ -37,16 +36,18 @@ fn told(standing: &Standing, length: usize) -> Came
     )
 }
 
-/// What the lines of these texts come to, of which this is gone.
-fn replayed(rt: &impl Abort, alloc: Global, gone: &Option<Gone>, texts: &[&str]) -> Came {
-    let identity = identity(rt, alloc);
-    let records = joined(rt, alloc, texts);
+/// What records of site 1 come to of which this is gone, or None where memory was refused.
+fn replayed(alloc: Global, gone: &Option<Gone>, records: &[u8]) -> Option<Came> {
+    let identity = Identity::new(alloc, 1, HEADER.as_bytes()).ok()?;
     let schema = identity.schema();
-    let site = identity.number();
-    match replay_held(alloc, schema, site, gone, records.as_slice()).expect(rt, "memory") {
-        LogReplayed::Standing { standing, length } => told(&standing, length),
-        LogReplayed::BadLine { number } => Came::BadLine(number),
-        LogReplayed::BreaksRule { number } => Came::BreaksRule(number),
+    if schema.sites() != 2 || schema.fields() != 1 {
+        return None;
+    }
+    match replay_held(alloc, schema, SiteNo(1), gone, records) {
+        Ok(LogReplayed::Standing { standing, length }) => Some(told(&standing, length)),
+        Ok(LogReplayed::BadLine { number }) => Some(Came::BadLine(number)),
+        Ok(LogReplayed::BreaksRule { number }) => Some(Came::BreaksRule(number)),
+        Err(_) => None,
     }
 }
 
@@ -88,8 +89,9 @@ fn lines_behind_a_base_come_to_what_they_stand_for(rt: HostRuntime) {
     let alloc = rt.alloc();
     let gone = gone(&rt, alloc, 16_000_123, 1_000_000);
     for (lines, expected) in &BEHIND {
-        let came = replayed(&rt, alloc, &gone, &[BASE, *lines]);
-        assert_eq!(rt; came, *expected, "{lines}");
+        let records = joined(&rt, alloc, &[BASE, *lines]);
+        let came = replayed(alloc, &gone, records.as_slice());
+        assert_eq!(rt; came, Some(*expected), "{lines}");
     }
 }
 
@@ -120,8 +122,8 @@ fn lines_that_begin_with_no_base_are_refused_at_the_first(rt: HostRuntime) {
     let alloc = rt.alloc();
     let gone = gone(&rt, alloc, 16_000_123, 1_000_000);
     for (lines, expected) in &NO_BASES {
-        let came = replayed(&rt, alloc, &gone, &[*lines]);
-        assert_eq!(rt; came, *expected, "{lines}");
+        let came = replayed(alloc, &gone, lines.as_bytes());
+        assert_eq!(rt; came, Some(*expected), "{lines}");
     }
 }
 
@@ -143,10 +145,7 @@ const WHOLE: [(&str, Came); 7] = [
 fn whole_logs_come_to_what_they_stand_for(rt: HostRuntime) {
     let alloc = rt.alloc();
     for (lines, expected) in &WHOLE {
-        assert_eq!(rt;
-            replayed(&rt, alloc, &None, &[*lines]),
-            *expected,
-            "{lines}"
-        );
+        let came = replayed(alloc, &None, lines.as_bytes());
+        assert_eq!(rt; came, Some(*expected), "{lines}");
     }
 }
