@@ -6,15 +6,16 @@ ghost use Rattle.field_bounds.specs.Schema.{SchemaValue};
 ghost use Rattle.kept_records.specs.declared.record.Record.{Record as Kept};
 ghost use Rattle.kept_records.specs.declared.counting.LogCount.{LogCount as Count};
 ghost use Rattle.kept_records.specs.Logs.{IsLog};
-ghost use Rattle.kept_records.specs.Stands.{greatest, plain};
+ghost use Rattle.kept_records.specs.Stands.{Lawful, greatest, plain};
 ghost use Rattle.kept_records.specs.Summary.{SummaryValue, summary_record};
 ghost use Rattle.kept_records.specs.Text.{text};
 ghost use Rattle.log_replay.specs.declared.standing.Standing.{Standing};
+ghost use Rattle.log_replay.specs.declared.log_bytes.LogReplayed.TheVariants.{BadLine, BreaksRule};
 ghost use Rattle.log_replay.specs.LogBytes.{ComesTo};
 ghost use Rattle.log_stand.specs.declared.stand.Stand.{Stand as StandValue};
 ghost use Rattle.log_bases.specs.Bases.{IsPast};
 ghost use Rattle.log_head.specs.declared.gone.Gone.{Gone as GoneValue};
-ghost use Rattle.held_logs.specs.Behind.{ComesFrom, IsForLog};
+ghost use Rattle.held_logs.specs.Behind.{ComesFrom, IsForLog, TellsBehind};
 ghost use Rattle.held_logs.specs.Counts.{IsCountBehind, IsStandBehind, told_number};
 
 /// A standing that `replay_held` tells is for lawful records of a site: where nothing is gone, for
@@ -27,6 +28,21 @@ pub fn held_standings_are_for_logs()
         → ComesTo schema s bytes standing n → IsForLog schema s standing }
     ensures behind { (schema : SchemaValue) (s : ℕ) (bytes : List ℕ) (standing : Standing) (n : ℕ)
         → ComesFrom schema s bytes standing n → IsForLog schema s standing }
+{}
+
+/// Of a log that begins with a base, and whose records are lawful behind a past of it, `replay_held`
+/// names no line: none that is no record (`lines`), and none that breaks a rule (`rules`).
+///
+/// Source: Balegas and others 2015 for the rights and the totals; this project for bases.
+pub fn named_lines_spare_lawful_logs()
+    ensures lines { (schema : SchemaValue) (s n : ℕ) (held rest : List ℕ) (base : SummaryValue)
+        (past rs : List Kept) → TellsBehind schema s held (BadLine n)
+        → IsLog held (summary_record base ∷ rs) rest → IsPast schema s base past
+        → Lawful schema s (past ++ (summary_record base ∷ rs)) → ⊥ }
+    ensures rules { (schema : SchemaValue) (s n : ℕ) (held rest : List ℕ) (base : SummaryValue)
+        (past rs : List Kept) → TellsBehind schema s held (BreaksRule n)
+        → IsLog held (summary_record base ∷ rs) rest → IsPast schema s base past
+        → Lawful schema s (past ++ (summary_record base ∷ rs)) → ⊥ }
 {}
 
 /// Where a log holds a base and some records behind it, and its head tells rightly how many bytes and

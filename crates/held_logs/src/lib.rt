@@ -15,6 +15,9 @@ mod replaying;
 
 pub use counting::{count_held, stand_held};
 pub use fault::HeldFault;
-pub use laws::{held_standings_are_for_logs, what_is_gone_counts_with_what_is_held};
+pub use laws::{
+    held_standings_are_for_logs, named_lines_spare_lawful_logs,
+    what_is_gone_counts_with_what_is_held,
+};
 pub use reading::{HeldLog, read_held};
 pub use replaying::replay_held;
