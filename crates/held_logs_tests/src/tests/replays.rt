@@ -22,7 +22,7 @@ enum Came {
 }
 
 /// What is told of a standing of site 1.
-fn told(standing: &Standing, length: usize) -> Came
+fn told(standing: &Standing, size: usize) -> Came
     requires stock { 0 < length standing.now.rights }
     requires place { IsSlot standing.now.ledger 0 0 }
 {
@@ -32,7 +32,7 @@ fn told(standing: &Standing, length: usize) -> Came
         rights.free(STOCK, Kind::Lower),
         rights.free(STOCK, Kind::Raise),
         standing.ledger.total(SiteNo(0), STOCK, Kind::Lower),
-        length,
+        size,
     )
 }
 

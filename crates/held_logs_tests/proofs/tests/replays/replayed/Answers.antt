@@ -5,7 +5,7 @@ use Rattle.held_logs_tests.proofs.tests.replays.replayed.Goals as goal
 pub told-requires : goal.told-requires
 told-requires c =
     let stands =
-    (stands_told c.args.gone.now c.schema.result.now 1 c.args.records.now c.in-Ok-Standing.field-0 c.in-Ok-Standing.standing c.in-Ok-Standing.length
+    (stands_told c.args.gone.now c.schema-schema.result.now 1 c.args.records.now c.in-Ok-Standing.field-0 c.in-Ok-Standing.standing c.in-Ok-Standing.length
     c.in-Ok-Standing.field-0-is c.in-Ok-Standing.ensures.whole c.in-Ok-Standing.ensures.behind).2 in
     record {
       stock = omega (arith, stands.for_.count, c.fields.ensures.value, c.if-fields-ne1.false);
