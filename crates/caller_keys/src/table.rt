@@ -1,10 +1,10 @@
 //! The last transaction of each key.
 
-ghost use Rattle.std.specs.Prelude.{◌≡◌, ◌+◌, ◌≤◌, ◌<◌, ◌++◌, ◌∷◌, [], List, ℕ, None, Some, OnOk, OnErr, if◌then◌else◌, bytes_eq};
+ghost use Rattle.std.specs.Prelude.{◌≡◌, ◌+◌, ◌≤◌, ◌<◌, ◌++◌, ◌∷◌, [], List, ℕ, None, Some, length, slice_get, option_map, IfSome, OnOk, OnErr, if◌then◌else◌, bytes_eq};
 ghost use Rattle.caller_keys.specs.Keys.{KeyNote, note_of, last_txn};
 ghost use Rattle.caller_keys.specs.Tables.{stored_of, last_in, Tells};
 
-use crate::key::Key;
+use crate::key::{Key, read_key};
 use field_bounds::TxnId;
 use indexmap::IndexMap;
 use std::alloc::{AllocError, Global};
@@ -71,6 +71,27 @@ impl KeyTable {
         ensures room { self.old.room ≤ self.new.room + 1 }
     {
         let _ = self.last.insert(stored(key), txn);
+    }
+
+    /// How many keys were noted. Costs no memory.
+    pub fn count(&self) -> usize
+        ensures value { result ≡ length self.now.rows }
+    {
+        self.last.len()
+    }
+
+    /// The key that n others were noted before, where more than n were. Costs no memory.
+    pub fn key_at(&self, n: usize) -> Option<Key<'_>>
+        ensures row { IfSome result (λ key. option_map (λ row. row.0) (slice_get self.now.rows n)
+            ≡ Some (stored_of key.bytes.now)) }
+    {
+        let (row, _) = self.last.get_index(n)?;
+        let end = usize::from(row[0]).saturating_add(1);
+        let key = read_key(row.get(1..end)?)?;
+        if stored(key) != *row {
+            return None;
+        }
+        Some(key)
     }
 
     /// The transaction that was noted last with a key, or None where none was. Costs a look-up, and no
