@@ -15,7 +15,7 @@ from types import MethodType
 from typing import Any, NoReturn, Optional, Union
 
 from .asking import ask, ask_behind_stop, async_ask_behind_stop, async_kept, end_of, id_of, is_kept, kept
-from .calls import Change, Kept, Line, Shape
+from .calls import Change, Kept, Line, Position, Shape
 from .connector import Connector
 from .desk import NEVER, Ask, Desks
 from .dropped import Closer, closer
@@ -23,8 +23,8 @@ from .errands import Errands
 from .errors import Down, Interrupted
 from .gauges import Gauges
 from .holding import Holding
-from .keys import KeptKey
-from .numbers import SHORT, amount_of, key_of, line_id, site_of
+from .keys import CallerKey, KeptKey
+from .numbers import SHORT, amount_of, line_id, site_of
 from .pipeline import Counts, Pipeline, Watch
 from .program import create, find_program, make_or_find
 from .records import Records
@@ -269,7 +269,7 @@ class Site:
 
     def change(
         self, field: str, change: int, before: Optional[Before] = None, *, key: Optional[str] = None,
-        timeout: Optional[float] = None,
+        since: Optional[str] = None, timeout: Optional[float] = None,
     ) -> str:  # fmt: skip
         """A transaction of one change in one trip: the id, once it is committed.
 
@@ -291,14 +291,16 @@ class Site:
         short by now: `Short` is told where no commit has the key by then. Where another call of this process with the key is
         under way, that is `Busy`: it may commit yet; those of other processes, behind a door, aren't seen. It takes two
         trips, since the commit of a change that was refused would note the key, and holds a place between them. What `before`
-        was told is the id of this call, which isn't committed where an earlier one was. Over a log that lets go of its front
-        the key is asked about first, in a third trip: **where it may have been let go of that is `Forgotten`, with the key, and
-        nothing is sold**, nor `before` called. Raises `NoKeys` where the program doesn't know keys, with nothing committed;
-        `ValueError` or `TypeError`, with nothing asked, where it is none.
+        was told is the id of this call, which isn't committed where an earlier one was. Over a log that was shortened **it is
+        `Forgotten`, with the key, and nothing is sold, where the log may have let go of an earlier commit with it**. So where
+        that is done give `since` too: what `position` told, and your own books had beside the order, before it was first asked
+        for. Then a new order is told from one that was let go of; without it none is. Raises `NoKeys` where the program doesn't
+        know keys, with nothing committed; `ValueError` or `TypeError`, with nothing committed, where it is no key, or no
+        position that was taken before.
         """
         end = end_of(timeout, self.timeout)
-        if key is not None:
-            return self._change_once(field, change, before, key_of(key), end)
+        if key is not None or since is not None:
+            return self._change_once(field, change, before, self.pipeline.caller_key(key, since), end)
         if before is not None:
             return self._change_behind(before, field, change, end)
         shape = self.pipeline.shape(field, change)
@@ -319,22 +321,35 @@ class Site:
             if t.only(field, change, before, end):
                 return t.id
 
-    def _change_once(self, field: str, change: int, before: Optional[Before], key: str, end: float) -> str:
-        with self.pipeline.keys.one(key):
+    def _change_once(self, field: str, change: int, before: Optional[Before], key: CallerKey, end: float) -> str:
+        with self.pipeline.keys.one(key.word):
             while True:
                 id = self.transaction().once(field, change, before, key, end)
                 if id is not None:
                     return id
 
-    def kept_key(self, key: str, *, timeout: Optional[float] = None) -> Optional[str]:
+    def position(self, *, timeout: Optional[float] = None) -> str:
+        """Where this site is now, for the `since` of a key: its newest transaction, or `..-EPOCH.0` where none was begun since its
+        start. Write it down beside the order **before the order is first asked for**, and give that one each time: each commit with
+        the key is then of a transaction behind it.
+
+        It asks nothing, and doesn't wait; over a door that is asked, which raises `Down`, and `Busy` where its time was up.
+        """
+        known = self.pipeline.position()
+        end = end_of(timeout, self.timeout)
+        return self.pipeline.front + (ask(self.pipeline, Position(), end) if known is None else known)
+
+    def kept_key(self, key: str, *, since: Optional[str] = None, timeout: Optional[float] = None) -> Optional[str]:
         """The id of the commit that has this key at this site; None where none has it by now, though a call that is under way
         may commit with it yet. It has it as long as the log is there: neither a new world nor an older copy of the log has.
 
-        Raises `Forgotten` where the log was shortened, and a commit with the key may be among what it let go of; `ValueError` or
-        `TypeError` where it is no key, with nothing asked; `NoKeys`; `Down`; `Busy` where its time was up: ask again; `Faulty`
-        where the answer is none that this client knows.
+        Raises `Forgotten` where the log was shortened, and a commit with the key may be among what it let go of: with `since`, as of
+        `change`, where it was shortened beyond that position. `ValueError` or `TypeError` where it is no key, or no position of
+        this site so far; `Unknown` where that is of a later start than any that this log has; `NoKeys`; `Down`; `Busy` where its
+        time was up: ask again; `Faulty` where the answer is none that this client knows.
         """
-        return id_of(self.pipeline, ask(self.pipeline, KeptKey(key_of(key)), end_of(timeout, self.timeout)))
+        asked = KeptKey(self.pipeline.caller_key(key, since))
+        return id_of(self.pipeline, ask(self.pipeline, asked, end_of(timeout, self.timeout)))
 
     def give(self, to: int, field: str, kind: Kind, amount: int, *, timeout: Optional[float] = None) -> Statement:
         """Gives free rights of a kind to another site: the statement that has to reach it.
@@ -565,15 +580,15 @@ class AsyncSite:
 
     async def change(
         self, field: str, change: int, before: Optional[Before] = None, *, key: Optional[str] = None,
-        timeout: Optional[float] = None,
+        since: Optional[str] = None, timeout: Optional[float] = None,
     ) -> str:  # fmt: skip
         """As `Site.change`. `before` is called in the loop; what it returns is awaited where it can be, as that of an
         `async def`."""
         if timeout is None:
             timeout = self.timeout
         end = NEVER if timeout is None else time.monotonic() + timeout
-        if key is not None:
-            return await self._change_once(field, change, before, key_of(key), end)
+        if key is not None or since is not None:
+            return await self._change_once(field, change, before, self._pipeline.caller_key(key, since), end)
         if before is not None:
             return await self._change_behind(before, field, change, end)
         shape = self._shapes.get((field, change)) if type(change) is int else None
@@ -598,16 +613,23 @@ class AsyncSite:
             if await t.only(field, change, before, end):
                 return t.id
 
-    async def _change_once(self, field: str, change: int, before: Optional[Before], key: str, end: float) -> str:
-        with self._pipeline.keys.one(key):
+    async def _change_once(self, field: str, change: int, before: Optional[Before], key: CallerKey, end: float) -> str:
+        with self._pipeline.keys.one(key.word):
             while True:
                 id = await self.transaction().once(field, change, before, key, end)
                 if id is not None:
                     return id
 
-    async def kept_key(self, key: str, *, timeout: Optional[float] = None) -> Optional[str]:
+    async def position(self, *, timeout: Optional[float] = None) -> str:
+        """As `Site.position`."""
+        known = self._pipeline.position()
+        end = end_of(timeout, self.timeout)
+        return self._pipeline.front + (await self._ask(Position(), end) if known is None else known)
+
+    async def kept_key(self, key: str, *, since: Optional[str] = None, timeout: Optional[float] = None) -> Optional[str]:
         """As `Site.kept_key`."""
-        return id_of(self._pipeline, await self._ask(KeptKey(key_of(key)), end_of(timeout, self.timeout)))
+        asked = KeptKey(self._pipeline.caller_key(key, since))
+        return id_of(self._pipeline, await self._ask(asked, end_of(timeout, self.timeout)))
 
     async def _was_made(self, change: Change, end: float) -> bool:
         """Whether it was made, though a stop left its answer out. Raises the answer where there is one."""
