@@ -69,6 +69,7 @@ class Site:
         trace: bool = False,
         *,
         sync: bool = True,
+        keep: Optional[int] = None,
         not_before: Optional[Mark] = None,
         last_id: Optional[str] = None,
         metrics: Optional[Watch] = None,
@@ -82,7 +83,9 @@ class Site:
         """Serves the site of this folder, and returns once it stands.
 
         `program` is the path of `escrow_site` (see `find_program`). `trace` keeps a trace: from the first start on and
-        always, or never. `sync=False` doesn't sync the log: a stop of the machine may lose what was answered.
+        always, or never. `sync=False` doesn't sync the log: a stop of the machine may lose what was answered. With `keep` the
+        program lets go of the front of its log while it serves, but for at least so many bytes: then what is asked about what is
+        gone is `Forgotten`, and keys want their `since`. Without it a log only grows.
         `not_before` refuses a log that is older, and so does `last_id`: the newest id that the caller's own books have
         as committed. The log is asked for it once, before any other call, and a site whose log hasn't got it is closed; one
         that was shortened beyond it isn't older, and goes on.
@@ -96,12 +99,14 @@ class Site:
         Raises `Down` where it doesn't stand in time, at once where the folder or the log is refused (`status` 3), the
         command line is (2), the disk has a fault (5), or another `Site` of this machine has the folder (6); a disk that
         is full is waited for. `FileNotFoundError` where no program is named and none is found, `ValueError` where
-        `last_id` is no id, and `OtherWorld` where it is one of another world.
+        `last_id` is no id or `keep` below 0, and `OtherWorld` where the id is one of another world.
         """
         self.folder = os.path.abspath(os.fspath(folder))
         self.number, self.world, self.schema = identity(self.folder)
         if last_id is not None:
             line_id(self.world[:SHORT], self.number, last_id)
+        options = (*(("--trace",) if trace else ()), *(() if sync else ("--no-sync",)))
+        options += () if keep is None else ("--keep", str(amount_of(keep)))
         self.metrics, self.timeout = metrics, timeout
         self.on_statement: list[Callable[[Statement], object]] = []
         """Called with each statement that is issued, in a thread of its own, in order: it has to reach its receiver."""
@@ -116,7 +121,6 @@ class Site:
         holding, issued = Holding(held, self._clock.after, self.folder), weakly(self._issued)
         self.pipeline = Pipeline(self.number, self.world, names, issued, metrics, holding, most_waiting)
         self._steps = Steps(self.pipeline, self.folder, self._program)
-        options = (*(("--trace",) if trace else ()), *(() if sync else ("--no-sync",)))
         orders = Orders(self.folder, (self._program, "serve", self.folder, *options), backoff, patience)
         self._supervisor = Supervisor(orders, self.pipeline, weakly(self._started), metrics, not_before)
         keep_watch(self, closer)
