@@ -156,7 +156,7 @@ class KeptKey(Call[Optional[str]]):
 
 
 def _id_told(reply: Reply, key: str) -> str:
-    """How lines name a transaction, as a reply tells it. Raises `NoKeys` where the line wasn't known, `Forgotten`, and `OddWord`."""
+    """How lines name a transaction, as a reply tells it. Raises `NoKeys` where the line wasn't known, `Forgotten`, `OddWord`."""
     if reply.text.startswith(BAD):
         raise NoKeys()
     if reply.text == FORGOTTEN:

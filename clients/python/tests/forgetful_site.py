@@ -1,5 +1,5 @@
 #!/usr/bin/env python3
-"""Stands in for the `escrow_site` of the next release, whose log lets go of its front: today's never does.
+"""Stands in for an `escrow_site` whose log lets go of its front: at once, at a word of the test, and where a test wants it.
 
 It serves a folder that the real one has made, and keeps what it commits in FOLDER/commits. FOLDER/told, which a test writes
 at any time, tells in JSON how it answers:

@@ -1,5 +1,5 @@
-"""A log that lets go of its front, over `forgetful_site.py`, which stands in for the program of the next release: what it has
-let go of is neither sold nor not sold, and nothing is sold twice by it."""
+"""A log that lets go of its front, over `forgetful_site.py`, which stands in for the program: what it has let go of is neither sold
+nor not sold, and nothing is sold twice by it. `test_shortened` is the same over the real program."""
 
 from __future__ import annotations
 
@@ -536,11 +536,9 @@ class PositionsOverFolderTest(ForgetfulTest):
             ("now", ValueError, "isn't the id"), ("", ValueError, "isn't the id"), (of_shop("1"), ValueError, "isn't the id"),
         ]  # fmt: skip
         for since, kind, told in cases:
-            does: list[Does] = [lambda: site.kept_key("order", since=since)]  # noqa: B023
-            does += [lambda sells=sells: sells("order", since) for sells in self.sales(site).values()]  # type: ignore[misc]  # noqa: B023
-            for act in does:
+            for sells in (lambda key, since: site.kept_key(key, since=since), *self.sales(site).values()):
                 with self.subTest(since), self.assertRaises(kind) as raised:
-                    act()
+                    sells("order", since)
                 self.assertIn(told, str(raised.exception))
         without: list[Does] = [
             lambda: site.change("stock", -1, since=of_shop("1.0")), lambda: site.transaction().commit(since=of_shop("1.0")),
@@ -625,12 +623,12 @@ class PositionsOverDoorTest(PositionsOverFolderTest):
         asked = [f"kept key a since {since}" for since in ("1.0", "1.1", "1.2", "2.0", "0.99")]
         replies = ("no", "no", "unbegun", "later", "no")
         self.assertEqual(hand.told(*asked), [f"{line} -> {reply}" for line, reply in zip(asked, replies)])
-        for line in ("kept key a since", "kept key a since 1", "kept key a since 1.0 b", "kept key a before 1.0", "kept key a/b since 1.0",
-                     "0 commit .1 key a since", "0 commit .1 key a since .1", "0 commit .1 key a since 1.0 b", "0 commit .1 since 1.0",
-                     "0 commit .1 key a before 1.0", "0 abort .1 key a since 1.0", "position a"):  # fmt: skip
+        bad = [f"{front} key a {words}" for front in ("kept", "0 commit .1") for words in ("since", "since 1", "since 1.0 b", "before 1.0")]
+        for line in (*bad, "kept key a/b since 1.0", "0 commit .1 key a since .1", "0 commit .1 since 1.0", "0 abort .1 key a since 1.0",
+                     "position a"):  # fmt: skip
             self.assertEqual(hand.told(line), ["bad line: the door takes no such line"], line)
-        self.assertEqual(hand.told("0 escrow .1 stock -3", "0 commit .1 key a since 1.0", "kept key a since 1.0"),
-                         ["0 escrow 1.1 stock -3 -> granted", "0 commit 1.1 -> committed", "kept key a since 1.0 -> 1.1"])  # fmt: skip
+        told = hand.told("0 escrow .1 stock -3", "0 commit .1 key a since 1.0", "kept key a since 1.0")
+        self.assertEqual(told[1:], ["0 commit 1.1 -> committed", "kept key a since 1.0 -> 1.1"])
 
 
 HEAD_3 = "escrow log 3\nnumber 0\nworld {}\nhead 16000123 1000000\nhorizon 7 1000431\nsum 0123456789abcdef\n"
