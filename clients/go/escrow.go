@@ -352,16 +352,18 @@ func (site *Site) keyLine(key, since string, own place) (string, error) {
 		return "key " + key, nil
 	}
 	at, err := site.placeOf(since)
+	if err != nil {
+		return "", err
+	}
 	if own == (place{}) {
 		own = site.next()
 	}
-	if err != nil {
-		return "", err
-	} else if at.epoch > own.epoch {
+	switch {
+	case at.epoch > own.epoch:
 		return "", errLater(since)
-	} else if at.epoch == own.epoch && at.number >= own.number {
+	case at.epoch == own.epoch && at.number >= own.number:
 		return "", fmt.Errorf("%w: the position %s isn't ahead of transaction %d.%d", ErrID, since, own.epoch, own.number)
-	} else if !site.mayForget {
+	case !site.mayForget:
 		return "key " + key, nil
 	}
 	return fmt.Sprintf("key %s since %d.%d", key, at.epoch, at.number), nil
