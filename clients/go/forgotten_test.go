@@ -1,7 +1,7 @@
 package escrow
 
-// Over clients/python/tests/forgetful_site.py, which stands in for the program of the next release, whose log lets go of its front:
-// nothing that it has let go of is sold twice, and by its position a new key is sold.
+// Over clients/python/tests/forgetful_site.py, which stands in for a program whose log lets go of its front: nothing that it has let go of
+// is sold twice, and by its position a new key is sold.
 
 import (
 	"errors"

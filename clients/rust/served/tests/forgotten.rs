@@ -1,5 +1,5 @@
-//! A log that lets go of its front, over `$ESCROW_PYTHON/tests/forgetful_site.py`, which stands in for the program of the next
-//! release: nothing that it has let go of is sold twice, and by its position a new key is sold. The other words of the environment are those of `door.rs`.
+//! A log that lets go of its front, over `$ESCROW_PYTHON/tests/forgetful_site.py`, which stands in for the program: nothing that it
+//! has let go of is sold twice, and by its position a new key is sold. The other words of the environment are those of `door.rs`.
 use escrow_served::{Change, Fault, Site};
 use std::env::var;
 use std::fs;
