@@ -193,6 +193,8 @@ def judge_shortened(folder: str, all_told: list[dict[str, str]], counts: dict[st
     print(f"killed or still: {counts}; {gone} bytes let go")
     print(f"orders asked for {len(since)}: {words}; sold {sold}, by {sum(map(len, all_told))} answers")
     print(f"orders told with another id than the log's, or with two, or told as sold and not kept {wrong}")
+    if not gone:
+        print("so little was sold that the log wasn't shortened: take more kills")
     return not wrong and gone > 0 and surely <= sold <= surely + words["gone, told to nobody"]
 
 
