@@ -261,14 +261,14 @@ class WholeTest(DoorTest):
         """A log that was shortened once tells so at each start, also without the option."""
         folder, books = self.folder(LARGE), Books()
         with escrow.Site(folder, program=escrow_site(), keep=KEEP, timeout=20.0) as site:
-            asyncio.run(books.buy_all(escrow.AsyncSite(site), iter(orders(0, 2500)), 32))
+            asyncio.run(books.buy_all(escrow.AsyncSite(site), iter(orders(0, 3000)), 32))
         site = self.served(folder, timeout=20.0)
         self.assertTrue(site.pipeline.may_forget)
         with self.assertRaises(Forgotten):
             site.change("stock", -1, key="order-0", since=books.since["order-0"])
         id = site.change("stock", -1, key="new", since=site.position())
         kill(site)
-        self.assertEqual((site.kept_key("new"), site.share("stock").lower), (id, FREE - 2501))
+        self.assertEqual((site.kept_key("new"), site.share("stock").lower), (id, FREE - 3001))
 
     def test_what_is_no_number_of_bytes(self) -> None:
         folder = self.folder(LARGE)
