@@ -24,6 +24,7 @@ GARBAGE = {
     "0 read sock": "no such field",
     "0 give 1 sock lower 1": "no such field",
     "0 commit": "no command",
+    "x" * 255: "no command",
     "x" * 300: "too long",
 }
 # How a start is asked to shorten the log: some starts aren't.
@@ -340,6 +341,20 @@ def look_at_log(shop: Shop, held: Log) -> None:
         raise Fault(f"{name}: unanswered, and forgotten: {forgotten}, {held.gone}")
 
 
+def take_run(
+    shop: Shop, shops: list[Shop], words: list[str], before: Log, lines: list[str], wanted: dict[int, str], out: list[str]
+) -> None:
+    """What a run told of these lines, over the log before it, and what it left."""
+    run = Run(shop, shops)
+    check_start(shop, words, before, out)
+    take_answers(run, lines, wanted, out)
+    held, rest = shop.site.log(), lines[max(0, len(out) - 2) :]
+    take_unanswered(run, rest, held)
+    # (what was so before stays so, where nothing was answered)
+    shop.unanswered = [*(shop.unanswered if len(out) <= 2 else []), *commits_of(rest)]
+    look_at_log(shop, held)
+
+
 def asked_first(shop: Shop, before: Log, dice: random.Random) -> list[tuple[str, str]]:
     """What a start is asked before all else, and what it answers by its log: how all stands, what a stop left unanswered, and of
     what came before."""
@@ -368,15 +383,7 @@ def try_kill(program: Program, shop: Shop, shops: list[Shop], dice: random.Rando
     words = ["--not-before", str(before.epoch), str(before.length)] if dice.random() < 0.5 else []
     words += dice.choice(KEEPS)
     out = killed(program, site, words, len(firsts), lines, dice)
-    run = Run(shop, shops)
-    check_start(shop, words, before, out)
-    take_answers(run, lines, wanted, out)
-    held = site.log()
-    rest = lines[max(0, len(out) - 2) :]
-    take_unanswered(run, rest, held)
-    # (those of before, where nothing was answered, stay unanswered)
-    shop.unanswered = [*(shop.unanswered if len(out) <= 2 else []), *commits_of(rest)]
-    look_at_log(shop, held)
+    take_run(shop, shops, words, before, lines, wanted, out)
     check_world([it.whole.log for it in shops])
     return max(0, len(out) - 2)
 

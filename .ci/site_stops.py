@@ -14,7 +14,7 @@ import os
 import shutil
 from collections.abc import Callable, Iterable
 
-from gate_programs import AT_ONCE, Fault, built, preloaded
+from gate_programs import AT_ONCE, Fault, as_file, built, preloaded
 from site_model import END, Log, check_world, checked, settled
 from site_program import FIRST, SHOP, Program, Site, files_of
 from site_settled import AGAIN, ENDED
@@ -84,13 +84,18 @@ class Stopper:
         self.library = preloaded(program.children, program.folder, "stop_calls")
         self.escrow = built(program.children, "escrow", "--help")
 
-    def run(self, words: list[str], given: str, number: int = 0, how: str = KILL) -> Ended:
+    def run(self, words: list[str], given: str, number: int = 0, how: str = KILL, is_whole: bool = False) -> Ended:
+        """How it ends where it is given these lines, in a file where each read is to bring as much as it has room for."""
         name = f"escrow_site {' '.join(words)}, call {number}: {how}"
         told = os.memfd_create("calls")
         env = {"LD_PRELOAD": self.library, "STOP_AT": str(number), "STOP_HOW": how, "STOP_TELL": str(told)}
         try:
             words = [self.program.path, *words]
-            ended = self.program.children.run(name, words, given.encode(), env=env, pass_fds=(told,))
+            if is_whole:
+                with as_file(given.encode()) as stdin:
+                    ended = self.program.children.run(name, words, env=env, pass_fds=(told,), stdin=stdin)
+            else:
+                ended = self.program.children.run(name, words, given.encode(), env=env, pass_fds=(told,))
             lines = os.pread(told, os.fstat(told).st_size, 0).decode().splitlines()
         finally:
             os.close(told)
