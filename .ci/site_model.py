@@ -13,7 +13,11 @@ KINDS = {"l": LOWER, "r": RAISE}
 
 
 class NoLog(Exception):
-    """A log that breaks a rule."""
+    """A log that breaks a rule: at this line of its records, or of what stands behind its head, where that is damaged."""
+
+    def __init__(self, why: str, line: int | None = None, is_damage: bool = False) -> None:
+        super().__init__(why)
+        self.line, self.is_damage = line, is_damage
 
 
 class OtherLog(NoLog):
@@ -215,12 +219,12 @@ class Log:
         self.gone, head = world.head_of(site, text)
         self.text = Text.of(text[head:])
         if self.text.bad_line:
-            raise NoLog(f"line {self.text.bad_line} begins no batch with its sum")
+            raise NoLog(f"line {self.text.bad_line} begins no batch with its sum", self.text.bad_line, True)
         self.records: list[str] = []
         for line in b"".join(self.text.batches).decode().splitlines():
             self.take_line(line)
         if self.gone and not self.records:
-            raise NoLog("line 1 is no base")
+            raise NoLog("line 1 is no base", 1)
         self.length = self.gone.bytes if self.gone else 0
         self.length += sum(len(it) + 1 for it in self.records)
 
@@ -231,8 +235,8 @@ class Log:
             return
         try:
             self.take_base(line) if self.gone and not self.records else self.take(line)
-        except (KeyError, ValueError, IndexError) as fault:
-            raise NoLog(f"line {len(self.records) + 1}: {line}") from fault
+        except (NoLog, KeyError, ValueError, IndexError) as fault:
+            raise NoLog(f"line {len(self.records) + 1}, {line}: {fault}", len(self.records) + 1) from fault
         self.records.append(line)
 
     def kept(self, txn: str) -> str:
@@ -265,7 +269,7 @@ class Log:
         totals = [*self.given.values(), *self.accepted.values()]
         is_in_range = self.epoch <= MOST_NUMBERS and max(totals, default=0) <= MOST_TOTAL and self.summary() == line
         if letter != "S" or int(count) != len(fields) or not is_in_range or not all(map(self.is_balanced, fields)):
-            raise NoLog(f"line 1: {line}")
+            raise NoLog("no records lead to its numbers")
 
     def is_balanced(self, field: int) -> bool:
         """Whether some records of the site lead to these numbers of a field."""
@@ -314,6 +318,9 @@ class Log:
 
     def accept(self, words: list[str]) -> None:
         at, rise = self.moved(self.accepted, words)
+        has = self.world.fields[at[0]]
+        if rise > has.ceiling - has.floor - self.guarded(at[0], LOWER) - self.guarded(at[0], RAISE):
+            raise NoLog(f"acceptance {words}: more than there is room for")
         self.own[at] += rise
 
     def tighten(self, words: list[str]) -> None:
@@ -383,7 +390,9 @@ def known(logs: list[Log], number: int, kind: str) -> int:
 
 
 def committed(logs: list[Log], number: int, field: Field) -> int:
-    """By the commits: of logs of which nothing is gone."""
+    """By all commits; where some are gone, by the rights to lower the field that all sites have."""
+    if any(log.gone for log in logs):
+        return field.floor + known(logs, number, LOWER)
     return field.value + sum(log.change[number] for log in logs)
 
 
