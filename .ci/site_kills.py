@@ -11,12 +11,12 @@ import time
 
 from gate_programs import Fault, built
 from site_misuse import LOST
-from site_model import LOWER, RAISE, Field, Log, World, bounded, check_world, checked, settled
+from site_model import LOWER, RAISE, Field, Log, World, bounded, check_world, checked, id_of, settled
 from site_program import FIRST, Program, Site, files_of
 from site_whole import Whole
 
 KILLS = int(os.environ.get("KILLS", "50"))
-WIDE = (Field("stock", 0, 1_000_000, 400_000), Field("seats", -50, 900, 77))
+WIDE = (Field("stock", 0, 1_000_000_000, 400_000_000), Field("seats", -50, 900, 77))
 GARBAGE = {
     "": "no command",
     "hello": "no command",
@@ -27,10 +27,11 @@ GARBAGE = {
     "x" * 255: "no command",
     "x" * 300: "too long",
 }
-# How a start is asked to shorten the log: some starts aren't.
-KEEPS: tuple[list[str], ...] = ([], ["--keep", "0"], ["--keep", "0"], ["--keep", "20000"])
+# How a short run is asked to shorten the log, and a long one: some aren't.
+KEEPS: tuple[list[str], ...] = ([], ["--keep", "0"], ["--keep", "20000"])
+LONG_KEEPS: tuple[list[str], ...] = (*[["--keep", "0"]] * 6, ["--keep", "2000"], [])
 # So many lines at most a run has; and so many bytes of questions, which come in one read.
-SHORT_RUN, LONG_RUN, AT_ONCE = 400, 40_000, 4_000
+SHORT_RUN, LONG_RUN, AT_ONCE = 400, 20_000, 4_000
 # So many transactions at most stay open for long.
 LINGERING = 20
 
@@ -45,6 +46,7 @@ class Shop:
     """Each key that a sale was asked for with, and the position behind which that was."""
     unanswered: list[str] = dataclasses.field(default_factory=list)
     """Transactions whose commit the last stop left unanswered."""
+    ordered: int = 0
     shortenings: int = 0
 
     @staticmethod
@@ -84,9 +86,13 @@ class Lines:
         self.own(f"{self.dice.choice(('commit', 'commit', 'commit', 'abort'))} {txn}")
 
     def burst(self) -> None:
-        """Sales and returns one behind the other, of which each keeps a record."""
-        field = self.site.world.fields[0].name
-        for _ in range(self.dice.randint(10, 60)):
+        """Sales and returns, or gifts or tightenings, one behind the other, of which each keeps a record."""
+        field, many = self.site.world.fields[0].name, self.dice.randint(10, 60)
+        if self.dice.random() < 0.5:
+            word = f"give {self.dice.choice(self.others())}" if self.others() else "tighten"
+            self.lines += [f"{self.site.number} {word} {field} {self.dice.choice((LOWER, RAISE))} 1"] * many
+            return
+        for _ in range(many):
             self.begun += 1
             txn = f"{self.epoch}.{self.begun}"
             self.own("begin")
@@ -106,7 +112,8 @@ class Lines:
         if orders and self.dice.random() < 0.4:
             key, since = self.dice.choice(orders[-50:] if self.dice.random() < 0.7 else orders)
         else:
-            key, since = f"order-{self.site.number}.{len(orders)}", f"{self.epoch}.{self.begun}"
+            self.shop.ordered += 1
+            key, since = f"order-{self.site.number}.{self.shop.ordered}", f"{self.epoch}.{self.begun}"
             orders.append((key, since))
         txn = self.begin(1)
         self.own(f"commit {txn} key {key}{f' since {since}' if self.dice.random() < 0.9 else ''}")
@@ -170,29 +177,49 @@ def feed(process: subprocess.Popen[bytes], first: int, lines: list[str], dice: r
         pass
 
 
+class Reader:
+    """Reads what a program writes, and kills it a moment after so many lines."""
+
+    def __init__(self, process: subprocess.Popen[bytes], most: int, moment: float) -> None:
+        self.process, self.most, self.moment = process, most, moment
+        self.pieces: list[bytes] = []
+        self.thread = threading.Thread(target=self.run)
+        self.thread.start()
+
+    def run(self) -> None:
+        count, timer = 0, threading.Timer(self.moment, self.process.kill)
+        while piece := os.read(self.process.stdout.fileno(), 1 << 16):
+            self.pieces.append(piece)
+            count += piece.count(b"\n")
+            if count >= self.most and not timer.ident:
+                timer.start()
+        timer.cancel()
+
+    def lines(self) -> list[str]:
+        self.thread.join()
+        return b"".join(self.pieces).decode().split("\n")[:-1]
+
+
 def killed(program: Program, site: Site, words: list[str], first: int, lines: list[str], dice: random.Random) -> list[str]:
     """Serves the lines, kills the program at a random moment, and gives the whole lines that it wrote."""
     how = {"stdin": subprocess.PIPE, "stdout": subprocess.PIPE, "stderr": subprocess.PIPE, "env": {}}
     words = ["serve", site.folder, *words, *(["--trace"] if site.is_traced else [])]
     process = program.children.start([program.path, *words], **how)
-    timer = threading.Timer(dice.random() * dice.choice((0.02, 0.1, 0.4)), process.kill)
-    out: list[bytes] = []
-    reader = threading.Thread(target=lambda: out.append(process.stdout.read()))
+    # (a few are killed before they are ready)
+    most, moment = dice.choice((0, dice.randint(1, 3), *(dice.randint(1, len(lines)) for _ in range(4)))), dice.random() / 100
     try:
-        # (one in five may be killed before it is ready)
-        out.append(process.stdout.readline() if dice.random() < 0.8 else b"")
-        reader.start()
-        timer.start()
+        if most == 0:
+            time.sleep(moment * 2)
+            process.kill()
+        reader = Reader(process, most, dice.choice((0, moment / 10, moment)))
         feed(process, first, lines, dice)
         process.kill()
-        reader.join()
-        told = process.stderr.read()
+        out, told = reader.lines(), process.stderr.read()
     finally:
-        timer.cancel()
         program.children.end(process)
     if told or process.returncode != -9:
         raise Fault(f"{site.folder}: status {process.returncode}, told {told!r}")
-    return b"".join(out).decode().split("\n")[:-1]
+    return out
 
 
 class Run:
@@ -352,6 +379,8 @@ def take_run(
     take_unanswered(run, rest, held)
     # (what was so before stays so, where nothing was answered)
     shop.unanswered = [*(shop.unanswered if len(out) <= 2 else []), *commits_of(rest)]
+    # (an epoch that wasn't begun comes again: nobody was told a position of it)
+    shop.orders = [(key, since) for key, since in shop.orders if id_of(since)[0] <= held.epoch]
     look_at_log(shop, held)
 
 
@@ -378,10 +407,11 @@ def try_kill(program: Program, shop: Shop, shops: list[Shop], dice: random.Rando
     before = site.log()
     firsts = asked_first(shop, before, dice)
     wanted = {number: answer for number, (_, answer) in enumerate(firsts, 1)}
-    count = dice.randint(1, dice.choice((SHORT_RUN, LONG_RUN)))
+    is_long = dice.random() < 0.5
+    count = dice.randint(LONG_RUN // 2, LONG_RUN) if is_long else dice.randint(1, SHORT_RUN)
     lines = [line for line, _ in firsts] + Lines(dice, shop, before.epoch + 1).some(count)
     words = ["--not-before", str(before.epoch), str(before.length)] if dice.random() < 0.5 else []
-    words += dice.choice(KEEPS)
+    words += dice.choice(LONG_KEEPS if is_long else KEEPS)
     out = killed(program, site, words, len(firsts), lines, dice)
     take_run(shop, shops, words, before, lines, wanted, out)
     check_world([it.whole.log for it in shops])
@@ -448,9 +478,10 @@ def try_kills(program: Program, name: str, count: int, dice: random.Random, is_t
     answers = sum(try_kill(program, dice.choice(shops), shops, dice) for _ in range(KILLS))
     for shop in shops:
         look_at_site(program, shop)
-    gone, orders = sum(it.shortenings for it in shops), sum(len(it.whole.orders) for it in shops)
+    runs, orders = sum(it.shortenings for it in shops), sum(len(it.whole.orders) for it in shops)
+    gone = sum(it.whole.gone.records for it in shops if it.whole.gone)
     print(f"escrow_site: {KILLS} kills of {count} sites, {answers} answers, none lost, {orders} orders, none sold twice; "
-          f"logs shortened in {gone} of the runs", flush=True)
+          f"{gone} of {sum(it.whole.counted for it in shops)} records let go, in {runs} of the runs", flush=True)
     look_at_world(program, shops)
     begin_anew(program, name, shops)
     if is_traced:

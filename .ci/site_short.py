@@ -15,7 +15,7 @@ from site_folders import WORLDS
 from site_keys import old_folder
 from site_kills import Run, Shop, check_start, look_at_log, take_answers
 from site_misuse import LOST, NO_RECORD, OTHERS, refuses
-from site_model import END, ChangedHead, Field, Gone, Log, NoLog, OtherLog, World, checked, sealed, settled
+from site_model import END, ChangedHead, Field, Gone, Log, NoLog, OtherLog, World, bounded, checked, sealed, settled
 from site_program import ALONE, FIRST, SHOP, Program, Site, files_of
 from site_settled import ENDED
 from site_short_stops import READ, sales
@@ -134,7 +134,7 @@ def settle_short_logs(program: Program) -> None:
     before = [files_of(it) for it in folders]
     program.ends(["check", *folders], 0, "\n".join([*checked(logs), ""]), "")
     program.ends(["settle", "--dry-run", *folders], 0, f"{settled(logs).header()}\n", "")
-    program.ends(["settle", *folders[1:]], 3, "field stock between 32 85\nfield still between 7 7\n", LOST.format(0))
+    program.ends(["settle", *folders[1:]], 3, "\n".join([*bounded(logs[1:]), ""]), LOST.format(0))
     if [files_of(it) for it in folders] != before:
         raise Fault(f"{folders}: looked at, and changed")
     program.ends(["settle", *folders], 0, f"{settled(logs).header()}\n", "")
@@ -162,7 +162,6 @@ HORIZON = "horizon 7 431"
 BAD_HEADS = (
     (head(*TOLD, version=4), OTHERS),
     (head(*TOLD, version=2), OTHERS),
-    (head(*TOLD, version=1), OTHERS),
     (head(*TOLD, owner=WORLD.owner(1)), OTHERS),
     (head(*TOLD, owner=SHOP.owner(0)), OTHERS),
     (head(*TOLD).replace(b"number 0", b"number 00"), OTHERS),
@@ -196,7 +195,7 @@ def refuse_heads(program: Program) -> None:
         program.put("bad_heads/log", text + behind)
         if why_refused(text + behind) != told:
             raise Fault(f"the model takes {text!r}: {why_refused(text + behind)}")
-        for words in (["serve"], ["serve", "--keep", "0"], ["show"], ["check"], ["settle"], ["settle", "--dry-run"]):
+        for words in (["serve"], ["serve", "--keep", "0"], ["show"], ["settle"], ["settle", "--dry-run"]):
             refuses(program, site, words, 3, f"{site.folder}/log: {told}")
     for gone in GOOD_HEADS:
         text = WORLD.log_head(0, gone) + behind
@@ -246,7 +245,7 @@ def refuse_bases(program: Program) -> None:
             taken += 1
             program.ends(["show", site.folder], 0, shown(text), "")
             continue
-        for words in (["serve"], ["serve", "--keep", "0"], ["show"], ["check"], ["settle"]):
+        for words in (["serve"], ["serve", "--keep", "0"], ["show"], ["settle"]):
             refuses(program, site, words, 3, f"{site.folder}/log: {told}")
     print(f"escrow_site: {len(held)} changed bases, {taken} of which balance; the others are refused", flush=True)
 
@@ -287,9 +286,9 @@ def refuse_keeps(program: Program) -> None:
         for folder in world.asked:
             path = shutil.copytree(os.path.join(world.kept(), folder), os.path.join(program.folder, f"keep_{folder}"))
             refuses(program, Site(SHOP, 0, path), ["serve", "--keep", "0", "--trace"], 3, f"{path}/log: {PLAIN}")
-    for words in (["--keep"], ["--keep", "all"], ["--keep", "-1"], ["--keep", str(2**64)], ["--keep", "1", "--keep", "2"]):
+    for words, named in ((["--keep"], "--keep"), (["--keep", "all"], "all"), (["--keep", "-1"], "-1"), (["--keep", str(2**64)], str(2**64))):
         status, out, err = program.run(["serve", site.folder, *words])
-        if (status, out) != (2, "") or "--keep" not in err:
+        if (status, out) != (2, "") or named not in err:
             raise Fault(f"serve {words}: {status}, {out!r}, {err!r}")
 
 
