@@ -20,7 +20,7 @@ from site_program import SHOP, Program, Site, files_of
 from site_stops import KILL, TEAR, Call, Disk, Ended, Stopper, each
 
 SHORT, NONE, WAIT = "short", "none", "wait"
-KEEP = ["--keep", "0", "--trace"]
+KEEP = ["--keep", "0"]
 # So many bytes come in one read. A line that isn't a command fills it.
 READ, FILLER = 65_536, "x" * 255 + "\n"
 
@@ -54,20 +54,24 @@ def given(first: list[str], then: list[str]) -> tuple[list[str], str]:
 
 
 
+def words_of(shop: Shop, *words: str) -> list[str]:
+    return [*words, *(["--trace"] if shop.site.is_traced else [])]
+
+
 def asks(program: Program, shop: Shop, shops: list[Shop], words: list[str], lines: list[str], wanted: dict[int, str]) -> None:
     """A run that nothing stops."""
-    before = shop.site.log()
+    before, words = shop.site.log(), words_of(shop, *words)
     status, out, told = program.run(["serve", shop.site.folder, *words], "".join(f"{it}\n" for it in lines).encode())
     if (status, told) != (0, "") or len(out.splitlines()) != len(lines) + 2:
         raise Fault(f"{shop.site.folder}: {status}, {told!r}, {out[-300:]!r}")
     take_run(shop, shops, words, before, lines, wanted, out.splitlines())
 
 
-def prepared(program: Program, name: str) -> list[Shop]:
+def prepared(program: Program, name: str, is_traced: bool = True) -> list[Shop]:
     """A world of two sites, of which the first has sold."""
-    shops = [Shop.of(program.created(f"{name}{number}", SHOP, number, True)) for number in range(2)]
+    shops = [Shop.of(program.created(f"{name}{number}", SHOP, number, is_traced)) for number in range(2)]
     for shop, lines in zip(shops, (ASKED_BEFORE, [])):
-        asks(program, shop, shops, ["--trace"], lines, {})
+        asks(program, shop, shops, [], lines, {})
     return shops
 
 
@@ -176,13 +180,15 @@ def goes_on(stopper: Stopper, shops: list[Shop]) -> None:
     asked += [(f"kept key {key} since {since}", before.kept_key(key, since)) for key, since in (("order-1", "1.900"), ("order-2", "2.0"))]
     lines, wanted = [line for line, _ in asked], {at: f"{line} -> {answer}" for at, (line, answer) in enumerate(asked, 1)}
     asks(program, shop, shops, KEEP, lines, wanted)
-    if set(files_of(shop.site.folder)) != {"log", "site", "trace"}:
+    if set(files_of(shop.site.folder)) != {"log", "site", *(["trace"] if shop.site.is_traced else [])}:
         raise Fault(f"{shop.site.folder}: served again, and it has {sorted(files_of(shop.site.folder))}")
     total = shop.whole.log.given[1, 0, LOWER]
     asks(program, other, shops, KEEP, [f"1 accept 0 1 stock lower {total}"] if total else [], {})
     logs, folders = [it.whole.log for it in shops], [it.site.folder for it in shops]
     check_world(logs)
     program.ends(["check", *folders], 0, "\n".join([*checked(logs), ""]), "")
+    if not shop.site.is_traced:
+        return
     status, woven, err = program.run(["weave", *folders])
     told = f"legal {woven.count(chr(10)) - 1}\n"
     judged = program.children.run("escrow audit", [stopper.escrow, "audit"], woven.encode(), env={})
@@ -191,12 +197,12 @@ def goes_on(stopper: Stopper, shops: list[Shop]) -> None:
     program.ends(["judge", *folders], 0, told, "")
 
 
-def stop_shortenings(program: Program) -> None:
-    stopper, shops = Stopper(program), prepared(program, "stopped_short")
+def stop_shortenings(program: Program, is_traced: bool = True) -> None:
+    stopper, shops = Stopper(program), prepared(program, "stopped_short", is_traced)
     lines, text = given(ASKED_FIRST, ASKED_THEN)
-    whole = copies(shops, "whole")
-    ended = stopper.run(["serve", whole[0].site.folder, *KEEP], text, is_whole=True)
-    take_run(whole[0], whole, KEEP, shops[0].site.log(), lines, {}, ended.lines())
+    whole, words = copies(shops, "whole"), words_of(shops[0], *KEEP)
+    ended = stopper.run(["serve", whole[0].site.folder, *words], text, is_whole=True)
+    take_run(whole[0], whole, words, shops[0].site.log(), lines, {}, ended.lines())
     if ended.status or ended.err or whole[0].whole.gone is None:
         raise Fault(f"{ended.name}: {ended.status}, {ended.err!r}, {whole[0].whole.gone}")
     if whole[0].whole.gone.open_then != (1,):
@@ -206,14 +212,14 @@ def stop_shortenings(program: Program) -> None:
         tried = copies(shops, f"{number}_{how}")
         folder, before = tried[0].site.folder, tried[0].site.log()
         os.link(f"{folder}/log", f"{folder}.log")
-        ended = stopper.run(["serve", folder, *KEEP], text, number, how, True)
+        ended = stopper.run(["serve", folder, *words], text, number, how, True)
         check_ended(ended, folder)
         if not {"log", "site", "trace", "log.new"}.issuperset(files_of(folder)):
             raise Fault(f"{ended.name}: it has {sorted(files_of(folder))}")
         for at, files in enumerate([files_of(folder), *Swaps(ended.calls).left(folder, f"{folder}.log")]):
             pair = [copied(tried[0], put(f"{folder}_{at}", files)), copies(tried[1:], f"{at}")[0]]
             try:
-                take_run(pair[0], pair, KEEP, before, lines, {}, ended.lines())
+                take_run(pair[0], pair, words, before, lines, {}, ended.lines())
                 goes_on(stopper, pair)
             except Fault as fault:
                 raise Fault(f"{ended.name}, {ended.stopped()}, state {at}: {fault}") from fault
@@ -230,7 +236,7 @@ def stop_shortenings(program: Program) -> None:
 def sync_always(program: Program) -> None:
     """The new log is synced before it has its name, and the folder behind it, also where the site isn't synced."""
     stopper, shops = Stopper(program), prepared(program, "unsynced_short")
-    folder, words = shops[0].site.folder, [*KEEP, "--no-sync"]
+    folder, words = shops[0].site.folder, words_of(shops[0], *KEEP, "--no-sync")
     lines, text = given(ASKED_FIRST, ASKED_THEN)
     before = shops[0].site.log()
     ended = stopper.run(["serve", folder, *words], text, is_whole=True)
@@ -261,7 +267,7 @@ def lock_out(program: Program) -> None:
         late = program.children.start([program.path, "serve", folder, "--trace"], env=env, **pipes)
         while not is_waiting(late.pid):
             time.sleep(0.001)
-        first = program.children.start([program.path, "serve", folder, *KEEP], env={}, **{**pipes, "stderr": None})
+        first = program.children.start([program.path, "serve", folder, *words_of(shops[0], *KEEP)], env={}, **{**pipes, "stderr": None})
         try:
             first.stdin.write(lines.encode())
             first.stdin.flush()
