@@ -14,7 +14,7 @@ from site_damage import shortened as left_out
 from site_folders import WORLDS
 from site_keys import old_folder
 from site_kills import Run, Shop, check_start, look_at_log, take_answers
-from site_misuse import LOST, NO_RECORD, OTHERS, refuses
+from site_misuse import CHANGED_HEAD, LOST, NO_RECORD, OTHERS, refuses
 from site_model import END, ChangedHead, Field, Gone, Log, NoLog, OtherLog, World, bounded, checked, sealed, settled
 from site_program import ALONE, FIRST, SHOP, Program, Site, files_of
 from site_settled import ENDED
@@ -22,7 +22,6 @@ from site_short_stops import READ, sales
 from site_stops import Stopper
 from site_whole import Whole
 
-CHANGED = "its head was changed: put its own newest log back"
 PLAIN = "version 1 can't let go of its front: serve it without --keep, or settle its world into a new one"
 # A world of three sites, one of whose fields has no width.
 WORLD = World(3, (Field("stock", 0, 100, 40), Field("still", 7, 7, 7)), "short-2026")
@@ -72,7 +71,7 @@ def why_refused(text: bytes) -> str:
     except OtherLog:
         return OTHERS
     except ChangedHead:
-        return CHANGED
+        return CHANGED_HEAD
     except NoLog as fault:
         if fault.line is None:
             raise Fault(f"{fault}, and no line is told") from fault
@@ -165,13 +164,13 @@ BAD_HEADS = (
     (head(*TOLD, owner=WORLD.owner(1)), OTHERS),
     (head(*TOLD, owner=SHOP.owner(0)), OTHERS),
     (head(*TOLD).replace(b"number 0", b"number 00"), OTHERS),
-    (head(*TOLD)[:-22], CHANGED),
-    (head(*TOLD)[:-22] + lines("sum 0000000000000000"), CHANGED),
-    (head(*TOLD)[:-22] + head(*TOLD)[-22:].upper(), CHANGED),
-    (head(*TOLD)[:-1], CHANGED),
-    *((head(*TOLD).replace(*it), CHANGED) for it in ((b"16000123", b"16000124"), (b"1000000\n", b"999999\n"), (b"7 431", b"7 432"),
+    (head(*TOLD)[:-22], CHANGED_HEAD),
+    (head(*TOLD)[:-22] + lines("sum 0000000000000000"), CHANGED_HEAD),
+    (head(*TOLD)[:-22] + head(*TOLD)[-22:].upper(), CHANGED_HEAD),
+    (head(*TOLD)[:-1], CHANGED_HEAD),
+    *((head(*TOLD).replace(*it), CHANGED_HEAD) for it in ((b"16000123", b"16000124"), (b"1000000\n", b"999999\n"), (b"7 431", b"7 432"),
                                                      (b"398", b"399"), (b" 12 398", b""), (b"horizon 7", b"horizon 8"))),
-    *((head(*told), CHANGED) for told in (
+    *((head(*told), CHANGED_HEAD) for told in (
         [], TOLD[:1], TOLD[1:], TOLD[::-1], [*TOLD, TOLD[1]], [TOLD[0], "", TOLD[1]], ["head 0 0"],
         ["head 16000123", TOLD[1]], ["head 16000123 1000000 1", TOLD[1]], ["head 016000123 1000000", TOLD[1]],
         ["head 16000123  1000000", TOLD[1]], ["head 18446744073709551616 0", TOLD[1]], ["head 0 18446744073709551616", TOLD[1]],
@@ -286,10 +285,6 @@ def refuse_keeps(program: Program) -> None:
         for folder in world.asked:
             path = shutil.copytree(os.path.join(world.kept(), folder), os.path.join(program.folder, f"keep_{folder}"))
             refuses(program, Site(SHOP, 0, path), ["serve", "--keep", "0", "--trace"], 3, f"{path}/log: {PLAIN}")
-    for words, named in ((["--keep"], "--keep"), (["--keep", "all"], "all"), (["--keep", "-1"], "-1"), (["--keep", str(2**64)], str(2**64))):
-        status, out, err = program.run(["serve", site.folder, *words])
-        if (status, out) != (2, "") or named not in err:
-            raise Fault(f"serve {words}: {status}, {out!r}, {err!r}")
 
 
 def remove_new(program: Program) -> None:
