@@ -8,15 +8,17 @@ from __future__ import annotations
 
 import copy
 import os
+import re
 import shutil
 import signal
 import subprocess
+import threading
 import time
 
-from gate_programs import Fault
+from gate_programs import Fault, preloaded, refusing
 from site_kills import Shop, take_run
-from site_model import LOWER, check_world, checked
-from site_program import SHOP, Program, Site, files_of
+from site_model import LOWER, Log, check_world, checked
+from site_program import ALONE, SHOP, Program, Site, files_of
 from site_stops import KILL, TEAR, Call, Disk, Ended, Stopper, each
 
 SHORT, NONE, WAIT = "short", "none", "wait"
@@ -284,4 +286,77 @@ def lock_out(program: Program) -> None:
             raise Fault(f"{folder}: {late.returncode}, {out!r}, {err!r}, {shops[0].site.log().gone}, {told[-200:]!r}")
 
 
-SHORT_STOPS = (stop_shortenings, sync_always, lock_out)
+# ---- memory, and readers
+
+
+def refuse_memory_of_shortenings(program: Program) -> None:
+    """Each growth of memory refused in turn while a log is shortened: it is told, or the log isn't shortened then, or it was managed
+    without; nothing is lost."""
+    library, shops = preloaded(program.children, program.folder, "refuse"), prepared(program, "refused_short", False)
+    lines = [*sales(2, 1, 1_250)]
+    asks(program, shops[0], shops, [], lines, {})
+    asked, counts = ["0 begin", "0 escrow 3.1 stock -1", "0 commit 3.1", "kept 2.1"], [0, 0, 0]
+    given = "".join(f"{it}\n" for it in asked).encode()
+    for number in range(1, 1_000):
+        tried = copies(shops, str(number))
+        folder, before = tried[0].site.folder, tried[0].site.log()
+        words = [program.path, "serve", folder, *KEEP]
+        name = f"serve --keep, growth {number} refused"
+        status, out, err, is_refused = refusing(program.children, library, name, words, given, number, False)
+        is_told = is_refused and (status, err) == (4, b"escrow_site: out of memory\n")
+        if not is_told and (status, err) != (0, b""):
+            raise Fault(f"{name}: {status}, {out[-300:]!r}, {err!r}")
+        take_run(tried[0], tried, KEEP, before, asked, {}, out.decode().split("\n")[:-1])
+        counts[0 if is_told else 1 if tried[0].whole.gone is None else 2] += 1
+        asks(program, tried[0], tried, KEEP, ["kept 3.1"], {1: f"kept 3.1 -> {tried[0].whole.kept('3.1')}"})
+        shutil.rmtree(folder)
+        if not is_refused:
+            print(f"escrow_site: {number - 1} growths of memory refused: {counts[0]} told, {counts[1]} without a shortening", flush=True)
+            return
+    raise Fault("serve --keep: a thousand growths")
+
+
+def read_while_shortened(program: Program) -> None:
+    """A log that is shown and copied again and again while it is shortened: each time it is one log or the other, whole."""
+    shop = Shop.of(program.created("read_short", ALONE))
+    folder, lines, copied_logs = shop.site.folder, sales(1, 1, 12_000), []
+    how = {"stdin": subprocess.PIPE, "stdout": subprocess.PIPE, "env": {}}
+    process = program.children.start([program.path, "serve", folder, *KEEP], **how)
+    out: list[bytes] = []
+    reader = threading.Thread(target=lambda: out.append(process.stdout.read()))
+    try:
+        out.append(process.stdout.readline())
+        reader.start()
+        writer = threading.Thread(target=write_all, args=(process, "".join(f"{it}\n" for it in lines).encode()))
+        writer.start()
+        last = (0, 0)
+        while process.poll() is None:
+            status, told, err = program.run(["show", folder])
+            found = re.search(r"^epoch 1\nlength (\d+)\n(?:gone (\d+)\n)?field", told, re.M)
+            now = (int(found[1]), int(found[2] or 0)) if found else (-1, -1)
+            if (status, err) != (0, "") or now[0] < last[0] or not last[1] <= now[1] <= now[0]:
+                raise Fault(f"{folder}: {status}, {told!r}, {err!r}, and before {last}")
+            last = now
+            copied_logs.append(files_of(folder)["log"])
+        writer.join()
+        reader.join()
+    finally:
+        program.children.end(process)
+    take_run(shop, [shop], KEEP, Log(ALONE, 0, ALONE.log_head(0)), lines, {}, b"".join(out).decode().splitlines())
+    for text in copied_logs:
+        held = Log(ALONE, 0, text)
+        place = held.gone.bytes if held.gone else 0
+        if shop.whole.starts.get(place, 0) != (held.gone.records if held.gone else 0) or not shop.whole.text.startswith(
+            "".join(f"{it}\n" for it in held.records).encode(), place
+        ):
+            raise Fault(f"{folder}: copied while it was served, and no front of its records: {held.gone}")
+    count = len({Log(ALONE, 0, it).gone for it in copied_logs})
+    print(f"escrow_site: {len(copied_logs)} looks at a log that is shortened, {count} different beginnings", flush=True)
+
+
+def write_all(process: subprocess.Popen[bytes], text: bytes) -> None:
+    process.stdin.write(text)
+    process.stdin.close()
+
+
+SHORT_STOPS = (stop_shortenings, sync_always, lock_out, refuse_memory_of_shortenings, read_while_shortened)
