@@ -346,13 +346,12 @@ def keep_as_much(program: Program) -> None:
     """What stays is what was asked for, to the byte: the log is looked at when it is due, and let go up to the last summary that
     may be; over starts of one folder."""
     stopper, shop = Stopper(program), Shop.of(program.created("kept_short", ALONE))
-    starts = ((None, 4_000), (0, 1), (0, 2_500), (20_000, 9_000), (3_000, 300), (0, 4_500), (100_000, 12_000), (2**40, 3_000), (0, 3_000))
+    starts = ((None, 4_000), (0, 1), (0, 2_500), (20_000, 7_000), (3_000, 300), (0, 4_500), (2**40, 3_000), (0, 3_000))
     for epoch, (keep, count) in enumerate(starts, 1):
         words = [] if keep is None else ["--keep", str(keep)]
         asked, before = sales(epoch, 1, count), shop.site.log()
         ended = stopper.run(["serve", shop.site.folder, *words], "".join(f"{it}\n" for it in asked), is_whole=True)
-        told = shop.whole.gone.bytes if shop.whole.gone else 0
-        due, run = None, Run(shop, [shop])
+        told, run = shop.whole.gone.bytes if shop.whole.gone else 0, Run(shop, [shop])
         check_start(shop, words, before, ended.lines()[:2])
         due = Due(shop.whole, keep, told) if keep is not None else None
         at = 0

@@ -218,7 +218,9 @@ def stop_shortenings(program: Program, is_traced: bool = True) -> None:
         check_ended(ended, folder)
         if not {"log", "site", "trace", "log.new"}.issuperset(files_of(folder)):
             raise Fault(f"{ended.name}: it has {sorted(files_of(folder))}")
-        for at, files in enumerate([files_of(folder), *Swaps(ended.calls).left(folder, f"{folder}.log")]):
+        left = [files_of(folder)]
+        left += [it for it in Swaps(ended.calls).left(folder, f"{folder}.log") if it not in left]
+        for at, files in enumerate(left):
             pair = [copied(tried[0], put(f"{folder}_{at}", files)), copies(tried[1:], f"{at}")[0]]
             try:
                 take_run(pair[0], pair, words, before, lines, {}, ended.lines())

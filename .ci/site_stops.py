@@ -361,12 +361,13 @@ def stop_starts(program: Program) -> None:
 
 
 def sold(program: Program, name: str) -> list[Site]:
-    """The two sites of a world, of which one has sold and given."""
+    """The two sites of a world, of which one has sold and given, and has let go of what its log had."""
     sites = [program.created(f"{name}{number}", SHOP, number, True) for number in range(2)]
     for site, asked in zip(sites, (ASKED.format(1), "1 accept 0 1 stock lower 3\n")):
         status, out, err = program.run(["serve", site.folder, "--trace"], asked.encode())
         if status or err or "refused" in out:
             raise Fault(f"{site.folder}: {status}, {out!r}, {err!r}")
+    sites[0].let_go()
     return sites
 
 

@@ -3,7 +3,7 @@ unanswered, tell them, so that a log that was shortened is compared with itself 
 from __future__ import annotations
 
 from gate_programs import Fault
-from site_model import KINDS, LOWER, RAISE, Gone, Log, World, id_of, sealed
+from site_model import KINDS, Gone, Log, World, id_of
 
 # A record that stands so many behind the last summary takes one with it.
 SUMMED = 1_000
@@ -95,15 +95,3 @@ class Whole:
         if has != wanted:
             odd = dict(set(has.items()) ^ set(wanted.items()))
             raise Fault(f"{name}: the log has other keys than were answered: {odd}")
-
-
-def shortened(whole: Whole, place: int, open_then: tuple[int, ...] = (), keys: bool = True) -> bytes:
-    """The log of version 3 of which all in front of this place is gone, where a summary begins."""
-    commits = [id_of(txn) for txn, at in whole.places.items() if at < place]
-    epoch, number = max(commits, default=(1, 0))
-    gone = Gone(place, whole.starts[place], epoch, number, open_then)
-    site = whole.log.site
-    held = bytes(whole.text[place:])
-    noted = {key: id_of(txn) for key, txn in whole.orders.items() if whole.places[txn] >= place}
-    notes = "".join(f"K {txn[0]} {txn[1]} {key.encode().hex().upper()}\n" for key, txn in noted.items()) if keys else ""
-    return whole.log.world.log_head(site, gone) + sealed(notes.encode() + held)
