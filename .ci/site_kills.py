@@ -48,6 +48,8 @@ class Shop:
     """Transactions whose commit the last stop left unanswered."""
     ordered: int = 0
     shortenings: int = 0
+    listed: int = 0
+    """In so many runs the log was shortened, and so many of them left a head that lists open transactions."""
 
     @staticmethod
     def of(site: Site) -> Shop:
@@ -61,6 +63,7 @@ class Lines:
         self.dice, self.shop, self.site, self.epoch, self.begun = dice, shop, shop.site, epoch, 0
         self.lines: list[str] = []
         self.lingering: list[str] = []
+        self.olds = dice.sample(list(shop.whole.places), min(50, len(shop.whole.places)))
 
     def others(self) -> list[int]:
         return [it for it in range(self.site.world.sites) if it != self.site.number]
@@ -101,9 +104,9 @@ class Lines:
 
     def linger(self) -> None:
         """A transaction that stays open for long."""
-        if len(self.lingering) < LINGERING and self.dice.random() < 0.1:
+        if len(self.lingering) < LINGERING and self.dice.random() < 0.15:
             self.lingering.append(self.begin(2))
-        elif self.lingering:
+        elif self.lingering and self.dice.random() < 0.05:
             self.own(f"commit {self.lingering.pop(self.dice.randrange(len(self.lingering)))}")
 
     def order(self) -> None:
@@ -138,11 +141,13 @@ class Lines:
         if orders and self.dice.random() < 0.5:
             key, since = self.dice.choice(orders)
             self.lines.append(f"kept key {key} since {since}")
+        elif self.olds and self.dice.random() < 0.5:
+            self.lines.append(f"kept {self.dice.choice(self.olds)}")
         else:
             self.lines.append(f"kept {self.epoch}.{self.dice.randint(1, self.begun + 1)}")
 
     def restart(self) -> None:
-        if self.dice.random() < 0.01:
+        if self.dice.random() < 0.004:
             self.own("restart")
             self.epoch, self.begun = self.epoch + 1, 0
             self.lingering.clear()
@@ -363,6 +368,7 @@ def look_at_log(shop: Shop, held: Log) -> None:
     whole.look_at_head(name, held)
     whole.look_at_keys(name, held)
     shop.shortenings += whole.gone != before
+    shop.listed += whole.gone != before and whole.gone is not None and whole.gone.open_then != ()
     forgotten = [it for it in shop.unanswered if held.kept(it) == "forgotten"]
     if forgotten:
         raise Fault(f"{name}: unanswered, and forgotten: {forgotten}, {held.gone}")
@@ -479,9 +485,10 @@ def try_kills(program: Program, name: str, count: int, dice: random.Random, is_t
     for shop in shops:
         look_at_site(program, shop)
     runs, orders = sum(it.shortenings for it in shops), sum(len(it.whole.orders) for it in shops)
-    gone = sum(it.whole.gone.records for it in shops if it.whole.gone)
+    gone, listed = sum(it.whole.gone.records for it in shops if it.whole.gone), sum(it.listed for it in shops)
     print(f"escrow_site: {KILLS} kills of {count} sites, {answers} answers, none lost, {orders} orders, none sold twice; "
-          f"{gone} of {sum(it.whole.counted for it in shops)} records let go, in {runs} of the runs", flush=True)
+          f"{gone} of {sum(it.whole.counted for it in shops)} records let go, in {runs} of the runs, at {listed} with open "
+          f"transactions", flush=True)
     look_at_world(program, shops)
     begin_anew(program, name, shops)
     if is_traced:

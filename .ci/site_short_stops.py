@@ -259,7 +259,7 @@ def is_waiting(number: int) -> bool:
 
 def lock_out(program: Program) -> None:
     """A start that has opened the log, and hasn't locked it yet, while another process shortens it: it is refused, whether that
-    serves it still or not."""
+    serves it still or not. So is one that comes once the log was shortened."""
     stopper = Stopper(program)
     for is_served in (False, True):
         shops = prepared(program, f"locked_out{int(is_served)}")
@@ -276,7 +276,9 @@ def lock_out(program: Program) -> None:
             first.stdin.write(lines.encode())
             first.stdin.flush()
             told = b"".join(first.stdout.readline() for _ in range(lines.count("\n")))
-            if not is_served:
+            if is_served:
+                program.ends(["serve", folder, "--trace"], 6, "", f"{folder}/log: in use: another process serves it", b"")
+            else:
                 told += first.communicate()[0]
             late.send_signal(signal.SIGCONT)
             out, err = late.communicate(timeout=60)
