@@ -14,7 +14,7 @@ from site_damage import shortened as left_out
 from site_folders import WORLDS
 from site_keys import old_folder
 from site_kills import Run, Shop, check_start, look_at_log, take_answers
-from site_misuse import CHANGED_HEAD, LOST, NO_RECORD, OTHERS, refuses
+from site_misuse import BEHIND, CHANGED_HEAD, LOST, NO_RECORD, NO_TRACE, OTHERS, refuses
 from site_model import END, ChangedHead, Field, Gone, Log, NoLog, OtherLog, World, bounded, checked, sealed, settled
 from site_program import ALONE, FIRST, SHOP, Program, Site, files_of
 from site_settled import ENDED
@@ -287,6 +287,33 @@ def refuse_keeps(program: Program) -> None:
             refuses(program, Site(SHOP, 0, path), ["serve", "--keep", "0", "--trace"], 3, f"{path}/log: {PLAIN}")
 
 
+def refuse_short_traces(program: Program) -> None:
+    """A trace beside a shortened log has an entry of each record, those that are gone too; none is begun there."""
+    site = made(program, "short_untraced", WORLD.log_text(0, lines(BASE), gone=GONE))
+    for words in (["serve", "--trace"], ["serve", "--trace", "--keep", "0"]):
+        refuses(program, site, words, 3, f"{site.folder}/trace: {NO_TRACE}")
+    site = program.created("short_traced", ALONE, 0, True)
+    asked = sales(1, 1, 3_000)
+    status, out, err = program.run(["serve", site.folder, "--trace", "--keep", "0"], lines(*asked))
+    if (status, err) != (0, "") or site.log().gone is None or not out.endswith("0 commit 1.3000 -> committed\n"):
+        raise Fault(f"{site.folder}: {status}, {err!r}, {site.log().gone}")
+    with open(f"{site.folder}/trace", encoding="ascii") as file:
+        trace = file.read()
+    entries = trace.count("\n") - 3
+    ahead = trace + "0 begin -> begun 1.3001\n0 escrow 1.3001 stock -1 -> granted\n0 commit 1.3001 -> committed\n0 be"
+    behind = trace.replace("0 commit 1.5 -> committed\n", "")
+    for text in (behind, trace.replace("0 commit 1.3000 -> committed\n", ""), trace[: len(ALONE.trace_name(0))]):
+        program.file("short_traced/trace", text)
+        for words in (["serve", "--trace"], ["serve", "--trace", "--keep", "0"], ["weave"], ["judge"]):
+            refuses(program, site, words, 3, f"{site.folder}/trace: {BEHIND}")
+    program.file("short_traced/trace", ahead)
+    program.ends(["judge", site.folder], 0, f"legal {entries + 2}\n", "")
+    length = site.log().length + 4
+    started = f"ready 2 2 {length}\n0 restart -> restarted 2 nothing\n"
+    program.ends(["serve", site.folder, "--trace"], 0, started, "", b"")
+    program.ends(["judge", site.folder], 0, f"legal {entries + 3}\n", "")
+
+
 def remove_new(program: Program) -> None:
     """What a stop left of a new log goes at the next start, whatever it holds, and nothing else looks at it."""
     for words in ([], ["--keep", "0"]):
@@ -368,5 +395,6 @@ def keep_as_much(program: Program) -> None:
 
 
 SHORT = (
-    tell_short_logs, sell_by_keys, settle_short_logs, refuse_heads, refuse_bases, damage_short_logs, refuse_keeps, remove_new, keep_as_much
+    tell_short_logs, sell_by_keys, settle_short_logs, refuse_heads, refuse_bases, damage_short_logs, refuse_keeps,
+    refuse_short_traces, remove_new, keep_as_much,
 )  # fmt: skip
