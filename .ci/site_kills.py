@@ -234,6 +234,7 @@ class Run:
         self.shop, self.shops, self.whole = shop, shops, shop.whole
         self.names = shop.whole.names
         self.open: dict[str, list[tuple[int, int]]] = {}
+        self.forgotten: list[str] = []
 
     def refuse(self, line: str, answer: str, why: str) -> None:
         raise Fault(f"{self.shop.site.folder}: {line}: {answer}, {why}")
@@ -332,6 +333,18 @@ def take_answers(run: Run, lines: list[str], wanted: dict[int, str], out: list[s
             run.take(line, reply)
         if not is_right:
             raise Fault(f"{run.shop.site.folder}: line {number}, {line}: {answer}, and not {wanted.get(number)}")
+        if answer.endswith(" -> forgotten"):
+            run.forgotten.append(line)
+
+
+def look_at_forgotten(run: Run, held: Log) -> None:
+    """What was forgotten may be gone: of a key that was asked for behind a position, by a commit behind that."""
+    for line in run.forgotten:
+        front, _, since = line.partition(" since ")
+        asked = front.removeprefix("kept ")
+        is_key = " key " in f" {asked}"
+        if held.gone is None or not (not since or held.gone.is_behind(since) if is_key else held.gone.has_passed(asked)):
+            raise Fault(f"{run.shop.site.folder}: {line}: forgotten, and gone is {held.gone}")
 
 
 def commits_of(lines: list[str]) -> dict[str, list[str]]:
@@ -383,6 +396,7 @@ def take_run(
     take_answers(run, lines, wanted, out)
     held, rest = shop.site.log(), lines[max(0, len(out) - 2) :]
     take_unanswered(run, rest, held)
+    look_at_forgotten(run, held)
     # (what was so before stays so, where nothing was answered)
     shop.unanswered = [*(shop.unanswered if len(out) <= 2 else []), *commits_of(rest)]
     # (an epoch that wasn't begun comes again: nobody was told a position of it)
