@@ -38,11 +38,11 @@ def sales(epoch: int, first: int, count: int) -> list[str]:
 # The first start: less than a summary's records, a key among them. The second one, in two batches: behind the first one the log is
 # shortened, while a transaction is open whose number is below those of commits that go; the second one commits it.
 ASKED_BEFORE = [*sales(1, 1, 900), "0 begin", "0 escrow 1.901 stock -1", "0 commit 1.901 key order-1"]
-OPEN, SOLD = "0 escrow 2.1 stock -2", "0 commit 2.1 key order-2 since 2.0"
-ASKED_FIRST = ["0 begin", OPEN, *sales(2, 2, 1_250)]
+ASKED_FIRST = ["0 begin", "0 escrow 2.1 stock -2", *sales(2, 2, 1_250)]
 ASKED_THEN = [
-    SOLD, "0 give 1 stock lower 3", "0 tighten stock raise 1", "0 read stock", "kept 2.1", "kept 2.1200", "kept key order-2 since 2.0",
-    "kept key order-3 since 2.1300", "hello",
+    "0 commit 2.1", "0 begin", "0 escrow 2.1252 stock -1", "0 commit 2.1252 key order-2 since 2.1251", "0 begin",
+    "0 escrow 2.1253 stock -1", "0 commit 2.1253 key order-3 since 2.0", "0 give 1 stock lower 3", "0 tighten stock raise 1",
+    "0 read stock", "kept 2.1", "kept 2.50", "kept 2.1200", "kept key order-2 since 2.1251", "kept key order-4 since 2.1253", "hello",
 ]  # fmt: skip
 
 
@@ -179,7 +179,8 @@ def goes_on(stopper: Stopper, shops: list[Shop]) -> None:
     before = shop.site.log()
     ids = [*shop.unanswered[:100], "1.1", "1.900", "1.901", "1.902", "2.2", "2.50", "2.1200"]
     asked = [(f"kept {it}", before.kept(it)) for it in ids]
-    asked += [(f"kept key {key} since {since}", before.kept_key(key, since)) for key, since in (("order-1", "1.900"), ("order-2", "2.0"))]
+    keys = (("order-1", "1.900"), ("order-2", "2.1251"), ("order-3", "2.0"))
+    asked += [(f"kept key {key} since {since}", before.kept_key(key, since)) for key, since in keys]
     lines, wanted = [line for line, _ in asked], {at: f"{line} -> {answer}" for at, (line, answer) in enumerate(asked, 1)}
     asks(program, shop, shops, KEEP, lines, wanted)
     if set(files_of(shop.site.folder)) != {"log", "site", *(["trace"] if shop.site.is_traced else [])}:
