@@ -431,7 +431,7 @@ def try_kill(program: Program, shop: Shop, shops: list[Shop], dice: random.Rando
     count = dice.randint(LONG_RUN // 2, LONG_RUN) if is_long else dice.randint(1, SHORT_RUN)
     lines = [line for line, _ in firsts] + Lines(dice, shop, before.epoch + 1).some(count)
     words = ["--not-before", str(before.epoch), str(before.length)] if dice.random() < 0.5 else []
-    words += dice.choice(LONG_KEEPS if is_long else KEEPS)
+    words += dice.choice(LONG_KEEPS if is_long else KEEPS) + dice.choice(([], [], [], ["--no-sync"]))
     out = killed(program, site, words, len(firsts), lines, dice)
     take_run(shop, shops, words, before, lines, wanted, out)
     check_world([it.whole.log for it in shops])

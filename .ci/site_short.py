@@ -328,6 +328,20 @@ def remove_new(program: Program) -> None:
                 raise Fault(f"{site.folder}: the log is {files_of(site.folder)['log']!r}")
 
 
+def shorten_behind_links(program: Program) -> None:
+    """A log that lies elsewhere, behind a link, is shortened there: the link stays, and names the log."""
+    site, there = program.created("linked", ALONE), os.path.join(program.folder, "other_disk")
+    os.mkdir(there)
+    os.rename(f"{site.folder}/log", f"{there}/linked.log")
+    os.symlink(f"{there}/linked.log", f"{site.folder}/log")
+    program.file("other_disk/linked.log.new", "garbage")
+    for epoch in (1, 2):
+        status, _, err = program.run(["serve", site.folder, "--keep", "0"], lines(*sales(epoch, 1, 3_000)))
+        held = {"site", "log"} == set(files_of(site.folder)) and {"linked.log"} == set(files_of(there))
+        if (status, err) != (0, "") or not held or not os.path.islink(f"{site.folder}/log") or not site.log().gone:
+            raise Fault(f"{site.folder}: {status}, {err!r}, {sorted(files_of(site.folder))}, {sorted(files_of(there))}, {site.log().gone}")
+
+
 @dataclasses.dataclass
 class Due:
     """When a log is looked at, and where it is let go, by how many bytes are to stay."""
