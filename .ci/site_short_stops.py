@@ -247,9 +247,12 @@ def sync_always(program: Program) -> None:
     ended = stopper.run(["serve", folder, *words], text, is_whole=True)
     take_run(shops[0], shops, words, before, lines, {}, ended.lines())
     put_at = next(at for at, call in enumerate(ended.calls) if call.name == "rename")
-    synced = [(call.path, at > put_at) for at, call in enumerate(ended.calls) if call.name == "fsync" and call.number >= 0]
-    if ended.status or synced.count((folder, True)) != 1 or (f"{folder}/log.new", False) not in synced:
-        raise Fault(f"{ended.name}: {ended.status}, {ended.err!r}, {synced}")
+    before, behind = ended.calls[:put_at], ended.calls[put_at:]
+    written = sum(call.number for call in before if call.name == "write" and is_of_new(call))
+    synced = [call.number for call in before if call.name in ("fsync", "fdatasync") and is_of_new(call)]
+    is_synced = synced[-1:] == [written] and [call.path for call in behind if call.name == "fsync"] == [folder]
+    if ended.status or not is_synced:
+        raise Fault(f"{ended.name}: {ended.status}, {ended.err!r}, {written} bytes, synced {synced}, {behind}")
 
 
 def is_waiting(number: int) -> bool:
