@@ -388,7 +388,9 @@ def keep_as_much(program: Program) -> None:
     may be; over starts of one folder."""
     stopper, shop = Stopper(program), Shop.of(program.created("kept_short", ALONE))
     starts = ((None, 4_000), (0, 1), (0, 2_500), (20_000, 7_000), (3_000, 300), (0, 4_500), (2**40, 3_000), (0, 3_000))
+    olds: list[bytes] = []
     for epoch, (keep, count) in enumerate(starts, 1):
+        olds.append(files_of(shop.site.folder)["log"])
         words = [] if keep is None else ["--keep", str(keep)]
         asked, before = sales(epoch, 1, count), shop.site.log()
         ended = stopper.run(["serve", shop.site.folder, *words], "".join(f"{it}\n" for it in asked), is_whole=True)
@@ -406,6 +408,18 @@ def keep_as_much(program: Program) -> None:
         is_right = ended.status == 0 and not shop.whole.lines_behind(shop.site.folder, held)
         if not is_right or (held.gone.bytes if held.gone else 0) != (due.gone if due else told):
             raise Fault(f"{ended.name}: {ended.status}, {ended.err!r}, {held.gone}, and not {due}")
+    refuse_older(program, shop, olds)
+
+
+def refuse_older(program: Program, shop: Shop, olds: list[bytes]) -> None:
+    """Copies of the log, of before each of the starts: none has come as far as the log has now, shortened or not."""
+    now = shop.site.log()
+    for text in olds:
+        put(shop.site, text)
+        log = shop.site.log()
+        told = f"{shop.site.folder}/log: epoch {log.epoch}, length {log.length}: older than --not-before: put the newest log back"
+        for seen in ((now.epoch, now.length), (0, now.length), (now.epoch, 0)):
+            refuses(program, shop.site, ["serve", "--keep", "0", "--not-before", *map(str, seen)], 3, told)
 
 
 SHORT = (
