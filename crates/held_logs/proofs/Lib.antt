@@ -1,0 +1,5 @@
+pub mod Firsts
+pub mod Taken
+pub mod Heads
+pub mod Whole
+pub mod Spared
