@@ -36,6 +36,10 @@ pub enum Why {
     NoLog,
     #[error("isn't the log of this site, or is a later program's: serve it by that, or put its own newest log back")]
     OtherLog,
+    #[error("its head was changed: put its own newest log back")]
+    HeadChanged,
+    #[error("version 1 can't let go of its front: serve it without --keep, or settle its world into a new one")]
+    Plain,
     #[error("line {0} is no record of this site: put its own newest log back")]
     BadRecord(u64),
     #[error("line {0}: the batch that begins there is damaged: put its own newest log back")]

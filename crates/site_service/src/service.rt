@@ -250,6 +250,13 @@ impl<F: LogFile> Service<F> {
         &self.site
     }
 
+    /// What is told of what was let go of the log, or None where nothing ever was. Costs no memory.
+    pub fn gone(&self) -> &Option<Gone>
+        ensures value { result.now ≡ self.now.served.let_go.told }
+    {
+        &self.told
+    }
+
     /// Whether a call of the file has failed, so that nothing is let out any more. Costs no memory.
     pub fn is_lost(&self) -> bool
         ensures value { result ≡ self.now.lost }
