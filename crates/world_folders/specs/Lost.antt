@@ -10,7 +10,7 @@ use Rattle.world_logs.specs.LostFaults.{KnownWithin}
 use Rattle.world_folders.specs.declared.worlds.SiteFolder.{SiteFolder}
 use Rattle.world_folders.specs.Reading.{IsSeen}
 use Rattle.world_folders.specs.Folders.{IsFolderOf, HasNoFolder}
-use Rattle.world_folders.specs.Logs.{StandsAsRead, BreaksAsRead, IsLogRead}
+use Rattle.world_folders.specs.Logs.{StandsAsRead, BreaksAsRead, LogText, IsLogRead, AreRecordsOf}
 
 -- The folder of the site was named, and it was seen whether a log is in it.
 pub record SeesLog (stands : List ℕ → Bool → Type 0) (folders : List SiteFolder) (s : ℕ) (there : Bool) : Type 0 where
@@ -50,15 +50,29 @@ pub record KnownAsRead (holds : List ℕ → List ℕ → Type 0) (folders : Lis
   pub count : length standings ≡ schema.sites
   pub each : (s : ℕ) → s < schema.sites → IsKnownOutcome holds folders schema lost s (Ok (slice_index_or standings s None))
 
--- These are all the records of the log of a site, as it was read, or it is lost.
-abbrev pub IsKnownLog : (List ℕ → List ℕ → Type 0) → List SiteFolder → List SiteNo → ℕ → Option (List Record) → Type 0
-IsKnownLog holds folders lost s None = IsNotAmong lost s → ⊥
-IsKnownLog holds folders lost s (Some rs) = IsLogRead holds folders s rs
+-- What was read of the log of a site, or it is lost.
+abbrev pub IsKnownRead : (List ℕ → List ℕ → Type 0) → List SiteFolder → List SiteNo → ℕ → Option LogText → Type 0
+IsKnownRead holds folders lost s None = IsNotAmong lost s → ⊥
+IsKnownRead holds folders lost s (Some log) = IsLogRead holds folders s log
 
--- The logs that are there were read, and bound each field so: no site has accepted more than was given.
+-- These may be all records of a site where its log was read, and else none are told.
+abbrev pub AreKnownRecords : SchemaValue → ℕ → Option LogText → Option (List Record) → Type 0
+AreKnownRecords schema s None None = Unit {0}
+AreKnownRecords schema s None (Some rs) = ⊥
+AreKnownRecords schema s (Some log) None = ⊥
+AreKnownRecords schema s (Some log) (Some rs) = AreRecordsOf schema s log.gone log.records rs
+
+-- These may be the logs that are there, of which this was read. Where nothing is gone there are no others.
+pub record AreKnownLogsOf (schema : SchemaValue) (texts : List (Option LogText)) (known : List (Option (List Record))) : Type 0 where
+  pub count : length known ≡ schema.sites
+  pub each : (s : ℕ) → s < schema.sites → AreKnownRecords schema s (slice_index_or texts s None) (known_log known s)
+
+-- The logs that are there were read, and bound each field so, whichever logs they are: no site has accepted more than was given.
 pub record BoundsAsRead (holds : List ℕ → List ℕ → Type 0) (folders : List SiteFolder) (schema : SchemaValue) (lost : List SiteNo)
     (ranges : List FieldRange) : Type 0 where
-  pub known : List (Option (List Record))
-  pub read : (s : ℕ) → s < schema.sites → IsKnownLog holds folders lost s (known_log known s)
-  pub within : KnownWithin schema known
-  pub bounds : AreRanges schema known ranges
+  pub texts : List (Option LogText)
+  pub count : length texts ≡ schema.sites
+  pub read : (s : ℕ) → s < schema.sites → IsKnownRead holds folders lost s (slice_index_or texts s None)
+  pub some : (known : List (Option (List Record))) × AreKnownLogsOf schema texts known
+  pub within : (known : List (Option (List Record))) → AreKnownLogsOf schema texts known → KnownWithin schema known
+  pub bounds : (known : List (Option (List Record))) → AreKnownLogsOf schema texts known → AreRanges schema known ranges

@@ -4,6 +4,7 @@
 
 mod checking;
 mod folder;
+mod folder_log;
 mod progress;
 mod reading;
 mod settling;
@@ -14,7 +15,8 @@ mod weaving;
 mod worlds;
 
 pub use checking::checked_states;
-pub use folder::{Paths, count_records, damaged_batch, read_file, read_site, records_in};
+pub use folder::{Paths, read_file, read_site};
+pub use folder_log::{count_records, damaged_batch, damaged_line, held_in, read_stand};
 pub use progress::tell_reading;
 pub use reading::ReadsFiles;
 pub use settling::{lost_sites, ranges_of, settled_header};

@@ -5,7 +5,8 @@ ghost use Rattle.file_medium.specs.Files.{cut_known};
 ghost use Rattle.site_folder.specs.Identity.{trace_name};
 ghost use Rattle.world_folders.specs.Traces.{AreEntriesRead, IsCutRead, IsOfFile, IsTraceEnd, kept_of};
 
-use crate::folder::{Paths, count_records, read_file};
+use crate::folder::{Paths, read_file};
+use crate::folder_log::count_records;
 use crate::reading::ReadsFiles;
 use crate::tells_fault::TellsFault;
 use field_bounds::{Entry, Schema};
