@@ -6,7 +6,7 @@ use crate::locking::lock_log;
 use crate::tracing::trace_for;
 use crate::unsynced::UnsyncedFile;
 use file_medium::{HostFile, LogFile};
-use file_swap::{HostSwap, LogSyncs};
+use file_swap::{HostSwap, LogSyncs, Replaceable};
 use folder_faults::{Fault, Why, failed, refused};
 use folder_serving::{
     TellsSwap, check_age, gone_of, keep_streams, open_named, open_service, open_short,
@@ -82,7 +82,7 @@ fn serve_batches<L: ShortLog + Drop, T: TellsFault>(
 }
 
 // Serves the site over its log of version 2 or 3.
-fn serve_short<F: TellsSwap, T: TellsFault>(
+fn serve_short<F: Replaceable + Drop, T: TellsFault>(
     rt: &HostRuntime,
     paths: &Paths,
     identity: &Identity,

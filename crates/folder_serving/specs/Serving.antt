@@ -6,9 +6,8 @@ use Rattle.field_bounds.specs.Schema.{SchemaValue}
 use Rattle.field_bounds.specs.declared.id.SiteNo.{SiteNo}
 use Rattle.script_input.specs.Streams.{AppendsPrefix}
 use Rattle.log_stand.specs.declared.stand.Stand.{Stand}
-use Rattle.log_stand.specs.Stand.{IsStandOf, IsBefore}
+use Rattle.log_stand.specs.Stand.{IsBefore}
 use Rattle.log_head.specs.declared.gone.Gone.{Gone}
-use Rattle.held_logs.specs.Counts.{IsStandBehind}
 use Rattle.site_folder.specs.Identity.{IdentityValue, log_name}
 use Rattle.site_service.specs.declared.fault.ServeFault.{ServeFault}
 use Rattle.site_service.specs.Answers.{held_in}
@@ -17,14 +16,8 @@ use Rattle.site_service.specs.Opening.{IsOpened}
 use Rattle.site_service.specs.Service.{ServiceValue, IsSettled}
 use Rattle.site_service.specs.Serving.{Serves, Stops, StopsAtOnce}
 use Rattle.site_service.specs.Traces.{TraceValue}
-use Rattle.world_folders.specs.Logs.{AreOfLog}
+use Rattle.world_folders.specs.Logs.{HaveCome, IsStandRead}
 use Rattle.world_folders.specs.Reading.{IsRead}
-
--- The log was read, and its records have come so far.
-pub record IsStandRead (holds : List ℕ → List ℕ → Type 0) (path : List ℕ) (identity : IdentityValue) (stand : Stand) : Type 0 where
-  pub records : List ℕ
-  pub log : AreOfLog holds path identity records
-  pub stand_is : IsStandOf records stand
 
 -- The log was read, and has come as far as was seen of it before, or further.
 pub record IsNoOlder (holds : List ℕ → List ℕ → Type 0) (path : List ℕ) (identity : IdentityValue) (seen : Stand) : Type 0 where
@@ -47,11 +40,6 @@ IsOpenedOver schema number (Some told) known service = IsOpenedBehind schema num
 
 -- ---- the first line of all
 
--- The log has come so far of which this is told to be gone, and these records are held.
-abbrev pub IsStandHeld : Option Gone → List ℕ → Stand → Type 0
-IsStandHeld None held stand = IsStandOf held stand
-IsStandHeld (Some gone) held stand = IsStandBehind gone held stand
-
 -- The version of the lines that are written: 1 where none of them can be `forgotten`, since nothing is gone of the log, nor will be.
 abbrev pub version_of : Option Gone → Bool → ℕ
 version_of None false = 1
@@ -66,7 +54,7 @@ ready_text version stand =
 -- The line of a service whose log will be shortened, or won't: by what is gone and what is held.
 pub record IsReadyLine (shortens : Bool) (service : ServiceValue) (line : List ℕ) : Type 0 where
   pub stand : Stand
-  pub stand_is : IsStandHeld service.served.let_go.told (held_in service.served) stand
+  pub stand_is : HaveCome service.served.let_go.told (held_in service.served) stand
   pub text : line ≡ ready_text (version_of service.served.let_go.told shortens) stand
 
 -- That line was written, of what is gone and of the records that are held, when these were safe in its log, all of them.

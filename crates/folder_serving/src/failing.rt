@@ -3,12 +3,11 @@
 use file_medium::{FileCall, FileFault, LogFile, read_whole};
 use file_swap::{HostSwap, Replaceable, SwapFault, SwapStep};
 use folder_faults::{Fault, Why, device_fault, refused, with_call};
-use held_logs::{HeldFault, read_held};
 use short_files::ShortFault;
 use site_folder::Identity;
 use std::alloc::Global;
 use std::fs::{File, Files};
-use world_folders::{Paths, TellsFault};
+use world_folders::{Paths, TellsFault, held_in};
 
 /// A log's file that tells which call of it failed, or of the file that was to take its place.
 pub trait TellsSwap: Replaceable + Drop {
@@ -114,14 +113,12 @@ fn damaged_fault<F: LogFile>(
     identity: &Identity,
     file: &mut F,
 ) -> Fault {
-    let path = paths.log.as_str();
     let Ok(bytes) = read_whole(alloc, file) else {
-        return device_fault(alloc, path);
+        return device_fault(alloc, paths.log.as_str());
     };
-    match read_held(alloc, identity, bytes.as_slice()) {
-        Err(HeldFault::Damaged { line }) => refused(alloc, path, Why::DamagedBatch(line)),
-        Err(HeldFault::NoMemory) => Fault::NoMemory,
-        _ => device_fault(alloc, path),
+    match held_in(alloc, paths, identity, bytes.as_slice()) {
+        Ok(_) => device_fault(alloc, paths.log.as_str()),
+        Err(fault) => fault,
     }
 }
 

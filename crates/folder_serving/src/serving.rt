@@ -5,34 +5,19 @@ ghost use Rattle.script_input.specs.Streams.{GaveNothing};
 ghost use Rattle.site_service.specs.Opening.{KeepsLines, SparesLines};
 ghost use Rattle.site_service.specs.Service.{IsSettled};
 ghost use Rattle.site_service.specs.Traces.{trace_of, HasTold};
-ghost use Rattle.folder_serving.specs.Serving.{IsNoOlder, IsNoPlain, IsOpenedOver, IsReadyLine, IsStandRead, ServesReady, StopsAtReady, StopsReady, TellsReady, ready_text, version_of};
+ghost use Rattle.folder_serving.specs.Serving.{IsNoOlder, IsNoPlain, IsOpenedOver, IsReadyLine, ServesReady, StopsAtReady, StopsReady, TellsReady, ready_text, version_of};
 
 use file_medium::LogFile;
 use folder_faults::{Fault, Why, device_fault, refused};
 use held_logs::stand_held;
 use log_head::Gone;
-use log_stand::{Stand, stand_of};
+use log_stand::Stand;
 use script_input::{Sink, Source};
 use short_log::ShortLog;
 use site_folder::{Identity, log_name};
 use site_service::{OpenFault, ServeFault, Service, serve, serve_keeping};
 use std::alloc::Global;
-use world_folders::{Paths, ReadsFiles, read_file, records_in};
-
-// How far the log of the folder has come. It is read without its lock.
-fn read_stand<R: ReadsFiles>(
-    files: &R,
-    alloc: Global,
-    paths: &Paths,
-    identity: &Identity,
-) -> Result<Stand, Fault>
-    ensures stand { IfOk result (IsStandRead (R.holds files.now) (string_bytes paths.now.log)
-        identity.now) }
-{
-    let bytes = read_file(files, alloc, paths.log.as_str(), Why::NoLog)?;
-    let records = records_in(alloc, paths, identity, bytes.as_slice())?;
-    Ok(stand_of(alloc, records.as_slice())?)
-}
+use world_folders::{Paths, ReadsFiles, read_file, read_stand};
 
 /// Refuses a log that is older than was seen of it before. It stays as it is, and is read without its
 /// lock. The fault besides `Old` is that it can't be read or isn't this site's, or want of memory.
