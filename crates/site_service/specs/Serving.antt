@@ -6,8 +6,9 @@ use Rattle.script_input.specs.Lines.{whole_lines, last_part}
 use Rattle.script_input.specs.Streams.{AppendsPrefix, one_more}
 use Rattle.site_service.specs.declared.fault.ServeFault.{ServeFault}
 use Rattle.site_service.specs.declared.fault.ServeFault.TheVariants as faults
-use Rattle.site_service.specs.Answers.{Served, held_in, AnswersLines}
-use Rattle.site_service.specs.Service.{ServiceValue, HoldsText, IsSettled}
+use Rattle.site_service.specs.Answers.{Served}
+use Rattle.site_service.specs.Keeping.{AnswersBy, IsSafeAt}
+use Rattle.site_service.specs.Service.{ServiceValue, IsSettled}
 use Rattle.site_service.specs.Traces.{TraceValue, HasTold, HasKept}
 
 -- What is kept of a part of a line: all of it, or, of more than 256 bytes, more than 256.
@@ -15,29 +16,32 @@ abbrev pub IsKeptOf : List ℕ → List ℕ → Type 0
 IsKeptOf part kept = (kept ≡ part) ⊎ ((max_line < length kept) × (max_line < length part))
 
 -- The reader has lost what was read. What waited at first was written, and behind it exactly the text of the answers to the whole
--- lines that were read, by which text the trace has grown too; none waits, and the record of each is safe.
-pub record Serves (from to before after : Option (List ℕ)) (trace traced : TraceValue) (start now : ServiceValue) : Type 0 where
+-- lines that were read, by which text the trace has grown too; none waits, and the record of each is safe, unless it was let go. Nothing
+-- is let go but by a service that shortens its log.
+pub record Serves (shortens : Bool) (from to before after : Option (List ℕ)) (trace traced : TraceValue) (start now : ServiceValue) : Type 0 where
   pub read : List ℕ
   pub consumed : Consumes from to read
   pub text : List ℕ
-  pub answers : AnswersLines start.served (whole_lines read) now.served text
+  pub answers : AnswersBy shortens start.served (whole_lines read) now.served text
   pub written : Appends before after (start.waiting ++ text)
   pub waiting : now.waiting ≡ []
   pub settled : IsSettled now
   pub told : HasTold trace traced text
 
 -- The same between two reads, after so many: each has brought one byte at least, and of the line that is being read so much is kept.
-pub record ServesPart (from to before after : Option (List ℕ)) (trace traced : TraceValue) (start now : ServiceValue) (line : List ℕ)
-    (reads : ℕ) : Type 0 where
-  pub serves : Serves from to before after trace traced start now
+pub record ServesPart (shortens : Bool) (from to before after : Option (List ℕ)) (trace traced : TraceValue) (start now : ServiceValue)
+    (line : List ℕ) (reads : ℕ) : Type 0 where
+  pub serves : Serves shortens from to before after trace traced start now
   pub kept : IsKeptOf (last_part serves.read) line
   pub some : reads ≤ length serves.read
 
 -- The serving goes on, or the input has ended: a last line without a line feed is no line.
-abbrev pub ServesOn : Option (List ℕ) → Option (List ℕ) → Option (List ℕ) → Option (List ℕ) → TraceValue → TraceValue
+abbrev pub ServesOn : Bool → Option (List ℕ) → Option (List ℕ) → Option (List ℕ) → Option (List ℕ) → TraceValue → TraceValue
     → ServiceValue → ServiceValue → List ℕ → ℕ → Bool → Type 0
-ServesOn from to before after trace traced start now line reads true = ServesPart from to before after trace traced start now line reads
-ServesOn from to before after trace traced start now line reads false = Serves from to before after trace traced start now × IsAtEnd to
+ServesOn shortens from to before after trace traced start now line reads true =
+    ServesPart shortens from to before after trace traced start now line reads
+ServesOn shortens from to before after trace traced start now line reads false =
+    Serves shortens from to before after trace traced start now × IsAtEnd to
 
 -- What was written by the time of a fault, of this text: a front of it at a write fault, and else all.
 abbrev pub IsOutAt : ServeFault → Option (List ℕ) → Option (List ℕ) → List ℕ → Type 0
@@ -57,19 +61,20 @@ IsLongAt faults.NoMemory read = Unit {0}
 
 -- A fault ends the serving. What was read is a front, whose batches were let out, and the rest: what was written is exactly what
 -- waited at first and the text of the answers to the whole lines of the front, at a write fault a front of that. The record of each
--- of these answers is safe, and the key of each commit: what is safe of the log is a text of exactly the bytes of the site that answered
--- the last of them that were not let go, with notes that tell the keys that it knew. The text of these answers is safe in the trace, maybe with more behind
--- it: so what is safe of the log is never ahead of the trace.
-pub record Stops (from to before after : Option (List ℕ)) (trace traced : TraceValue) (start now : ServiceValue) (fault : ServeFault)
-    : Type 0 where
+-- of these answers is safe, unless it was let go, and the key of each commit: what is safe of the log is a text of exactly the bytes that
+-- are held by the site that answered the last of them, with notes that tell the keys that it knew; or, where the log is shortened, and its
+-- file failed, that or one of fewer bytes. The text of these answers is safe in the trace, maybe with more behind it: so what is safe of
+-- the log is never ahead of the trace.
+pub record Stops (shortens : Bool) (from to before after : Option (List ℕ)) (trace traced : TraceValue) (start now : ServiceValue)
+    (fault : ServeFault) : Type 0 where
   pub front : List ℕ
   pub back : List ℕ
   pub consumed : Consumes from to (front ++ back)
   pub last : Served
   pub text : List ℕ
-  pub answers : AnswersLines start.served (whole_lines front) last text
+  pub answers : AnswersBy shortens start.served (whole_lines front) last text
   pub out : IsOutAt fault before after (start.waiting ++ text)
-  pub safe : HoldsText now.safe last.last (held_in last)
+  pub safe : IsSafeAt shortens fault last now.safe
   pub told : HasKept trace traced text
   pub long : IsLongAt fault front
 

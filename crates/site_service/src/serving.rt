@@ -1,11 +1,11 @@
 //! The serving of an input: what one read brings is a batch.
 
-ghost use Rattle.std.specs.Prelude.{◌≡◌, ◌≢◌, ◌<◌, ◌≤◌, ◌⊎◌, ◌+◌, ◌++◌, ◌∷◌, ℕ, List, Option, [], false, length, take, All, MatchOption, IfOk, IfErr, OnOk, OnErr, vec_len};
+ghost use Rattle.std.specs.Prelude.{◌≡◌, ◌≢◌, ◌<◌, ◌≤◌, ◌⊎◌, ◌+◌, ◌++◌, ◌∷◌, ℕ, List, Option, Bool, [], true, false, length, take, All, MatchOption, IfOk, IfErr, OnOk, OnErr, vec_len};
 ghost use Rattle.std.specs.Io.{ReadsAtMost};
 ghost use Rattle.std.specs.Io.KnownBytes.{IsAtEnd, ReadConsumes};
 ghost use Rattle.script_input.specs.Lines.{whole_lines_after, last_part_after};
 ghost use Rattle.script_input.specs.Streams.{HasFailed, GaveNothing, HasRefused};
-ghost use Rattle.site_service.specs.Service.{ServiceValue, KeepsLog, HasAnswered, HasAnsweredAll};
+ghost use Rattle.site_service.specs.Service.{ServiceValue, IsSettled, KeepsLog, HasAnswered, HasAnsweredAll};
 ghost use Rattle.site_service.specs.Traces.{TraceValue, trace_of};
 ghost use Rattle.site_service.specs.Serving.{IsKeptOf, Serves, ServesPart, ServesOn, Stops, StopsAtOnce, CountsReads, CountsWrites};
 
@@ -45,7 +45,7 @@ fn keep(line: &mut Vec<u8>, bytes: &[u8]) -> Result<(), AllocError>
 }
 
 // Memory for what one read brings.
-fn new_buffer(alloc: Global) -> Result<Vec<u8>, AllocError>
+pub(crate) fn new_buffer(alloc: Global) -> Result<Vec<u8>, AllocError>
     ensures some { IfOk result (λ buffer. 0 < vec_len buffer) }
 {
     vec![in alloc; 0u8; PIECE]
@@ -111,7 +111,7 @@ fn read_piece<R: Source>(reader: &mut R, buffer: &mut [u8]) -> Result<usize, Ser
 
 // One read, the answers to the lines that it ends, and their release: they are in the trace before.
 // Tells whether there may be more.
-fn take_batch<F: LogFile, T: LogFile, R: Source, W: Sink>(
+pub(crate) fn take_batch<F: LogFile, T: LogFile, R: Source, W: Sink>(
     alloc: Global,
     service: &mut Service<F>,
     trace: &mut T,
@@ -121,17 +121,20 @@ fn take_batch<F: LogFile, T: LogFile, R: Source, W: Sink>(
     writer: &mut W,
 ) -> Result<bool, ServeFault>
     requires room { 0 < length buffer.old }
-    ensures ok { (from before : Option (List ℕ)) (was : TraceValue) (start : ServiceValue)
-        (reads : ℕ) → ServesPart from (R.bytes reader.old) before (W.bytes writer.old)
+    ensures ok { (shortens : Bool) (from before : Option (List ℕ)) (was : TraceValue)
+        (start : ServiceValue) (reads : ℕ)
+        → ServesPart shortens from (R.bytes reader.old) before (W.bytes writer.old)
         was (trace_of (T.bytes trace.old) (T.safe trace.old)) start service.old line.old.items reads
-        → IfOk result (ServesOn from (R.bytes reader.new) before (W.bytes writer.new)
+        → IfOk result (ServesOn shortens from (R.bytes reader.new) before (W.bytes writer.new)
         was (trace_of (T.bytes trace.new) (T.safe trace.new)) start service.new line.new.items
         (reads + 1)) }
-    ensures err { (from before : Option (List ℕ)) (was : TraceValue) (start : ServiceValue)
-        (reads : ℕ) → ServesPart from (R.bytes reader.old) before (W.bytes writer.old)
+    ensures err { (shortens : Bool) (from before : Option (List ℕ)) (was : TraceValue)
+        (start : ServiceValue) (reads : ℕ)
+        → ServesPart shortens from (R.bytes reader.old) before (W.bytes writer.old)
         was (trace_of (T.bytes trace.old) (T.safe trace.old)) start service.old line.old.items reads
-        → IfErr result (Stops from (R.bytes reader.new) before (W.bytes writer.new)
+        → IfErr result (Stops shortens from (R.bytes reader.new) before (W.bytes writer.new)
         was (trace_of (T.bytes trace.new) (T.safe trace.new)) start service.new) }
+    ensures settled { IfOk result (λ more. more ≡ true → IsSettled service.new) }
     ensures least { service.new.least ≡ service.old.least }
     ensures uncut { T.least trace.new ≡ T.least trace.old }
     ensures end { IfOk result (λ more. more ≡ false → GaveNothing (R.last reader.new)) }
@@ -161,15 +164,15 @@ fn serve_batches<F: LogFile, T: LogFile, R: Source, W: Sink>(
     writer: &mut W,
 ) -> Result<(), ServeFault>
     ensures ok { (from before : Option (List ℕ)) (was : TraceValue) (start : ServiceValue)
-        → ServesPart from (R.bytes reader.old) before (W.bytes writer.old)
+        → ServesPart false from (R.bytes reader.old) before (W.bytes writer.old)
         was (trace_of (T.bytes trace.old) (T.safe trace.old)) start service.old [] 0
-        → OnOk result (Serves from (R.bytes reader.new) before (W.bytes writer.new)
+        → OnOk result (Serves false from (R.bytes reader.new) before (W.bytes writer.new)
         was (trace_of (T.bytes trace.new) (T.safe trace.new)) start service.new
         × IsAtEnd (R.bytes reader.new)) }
     ensures err { (from before : Option (List ℕ)) (was : TraceValue) (start : ServiceValue)
-        → ServesPart from (R.bytes reader.old) before (W.bytes writer.old)
+        → ServesPart false from (R.bytes reader.old) before (W.bytes writer.old)
         was (trace_of (T.bytes trace.old) (T.safe trace.old)) start service.old [] 0
-        → IfErr result (Stops from (R.bytes reader.new) before (W.bytes writer.new)
+        → IfErr result (Stops false from (R.bytes reader.new) before (W.bytes writer.new)
         was (trace_of (T.bytes trace.new) (T.safe trace.new)) start service.new) }
     ensures least { service.new.least ≡ service.old.least }
     ensures uncut { T.least trace.new ≡ T.least trace.old }
@@ -224,7 +227,7 @@ pub fn serve<F: LogFile, T: LogFile, R: Source, W: Sink>(
 ) -> Result<(), ServeFault>
     // All the input is read, and the text of the answers to its whole lines is written, and is in
     // the trace.
-    ensures ok { OnOk result (Serves (R.bytes reader.old) (R.bytes reader.new)
+    ensures ok { OnOk result (Serves false (R.bytes reader.old) (R.bytes reader.new)
         (W.bytes writer.old) (W.bytes writer.new) (trace_of (T.bytes trace.old) (T.safe trace.old))
         (trace_of (T.bytes trace.new) (T.safe trace.new)) service.old service.new
         × IsAtEnd (R.bytes reader.new)) }
@@ -237,7 +240,7 @@ pub fn serve<F: LogFile, T: LogFile, R: Source, W: Sink>(
     ensures err { IfErr result (λ fault. StopsAtOnce (R.bytes reader.old) (R.bytes reader.new)
         (W.bytes writer.old) (W.bytes writer.new) (trace_of (T.bytes trace.old) (T.safe trace.old))
         (trace_of (T.bytes trace.new) (T.safe trace.new)) service.old service.new fault
-        ⊎ Stops (R.bytes reader.old) (R.bytes reader.new)
+        ⊎ Stops false (R.bytes reader.old) (R.bytes reader.new)
         (W.bytes writer.old) (W.bytes writer.new) (trace_of (T.bytes trace.old) (T.safe trace.old))
         (trace_of (T.bytes trace.new) (T.safe trace.new)) service.old service.new fault) }
 

@@ -10,6 +10,7 @@ use site_folder::Identity;
 
 mod behind;
 mod listed;
+mod serving;
 
 const HEADER: &str =
     r#"{"sites":2,"fields":[{"name":"stock","floor":0,"ceiling":100,"value":40}]}"#;
