@@ -18,9 +18,9 @@ use Rattle.script_input.specs.Streams.{one_more}
 use Rattle.line_words.specs.Words.{words}
 use Rattle.site_service.specs.LineFaults.{fault_in}
 use Rattle.caller_keys.specs.Keys.{IsKey}
-use Rattle.site_service.specs.declared.key_answer.KeyAnswer.TheVariants.{Kept}
+use Rattle.site_service.specs.declared.key_answer.KeyAnswer.TheVariants.{No}
 use Rattle.site_service.specs.LetGo.{LetGo, let_go_of, commit_answer, key_answer}
-use Rattle.site_service.specs.Kept.{LastNotes, last_of, noted, TellsCommit, TellsKey, kept_text, kept_words, kept_key_text, kept_key_words}
+use Rattle.site_service.specs.Kept.{LastNotes, last_of, noted, TellsCommit, TellsKey, kept_text, kept_words, kept_key_text, kept_key_words, with_since, SinceFits}
 use Rattle.site_service.specs.declared.bad_line.BadLine.{BadLine}
 use Rattle.site_service.specs.declared.bad_line.BadLine.TheVariants.{TooLong, OtherSite, UnknownWord, NoField, NoCommand}
 
@@ -96,11 +96,12 @@ pub record ToldKept (old : Served) (line : List ℕ) (new : Served) (text : List
 abbrev pub commit_text : SchemaValue → SiteNo → TxnId → List ℕ → List ℕ
 commit_text schema site txn key = command_text schema site (Commit txn) ++ (codes " key " ++ key)
 
--- The line is the text of a commit with a key at this site.
-pub record AsksCommit (schema : SchemaValue) (number : SiteNo) (line : List ℕ) (txn : TxnId) (key : List ℕ) : Type 0 where
+-- The line is the text of a commit with a key at this site; it may tell since when the key is looked for.
+pub record AsksCommit (schema : SchemaValue) (number : SiteNo) (line : List ℕ) (txn : TxnId) (key : List ℕ) (since : Option TxnId) : Type 0 where
   pub fits : IdFits txn
   pub is_key : IsKey key
-  pub text : line ≡ commit_text schema number txn key
+  pub since_fits : SinceFits since
+  pub text : line ≡ with_since (commit_text schema number txn key) since
 
 -- The reply tells that a transaction was committed.
 abbrev pub is_committed : Reply → Bool
@@ -118,55 +119,62 @@ pub record CommitsWith (old : SiteValue) (last : LastNotes) (txn : TxnId) (key :
   pub answered : Answered old (Commit txn) new text
   pub notes : NotesCommit last later key txn answered.reply
 
--- The line asks a commit with a key, with which one is kept already, among the records that are held. All stays as it is, and the text tells that one: as the answer to
--- the question for the key does.
+-- The line asks a commit with a key, with which one is kept already, among the records that are held, or may be among those that were let
+-- go. All stays as it is, and the text tells that: as the answer to the question for the key does, without since when.
 pub record RefusedKey (old : Served) (line : List ℕ) (new : Served) (text : List ℕ) : Type 0 where
   pub txn : TxnId
   pub key : List ℕ
-  pub asks : AsksCommit old.site.schema old.site.site line txn key
-  pub other : TxnId
-  pub tells : TellsKey (held_in old) old.last key (Some other)
+  pub since : Option TxnId
+  pub asks : AsksCommit old.site.schema old.site.site line txn key since
+  pub kept : Option TxnId
+  pub tells : TellsKey (held_in old) old.last key kept
+  pub refuses : key_answer old.let_go.told since kept ≢ No
   pub still : IsStill old new
-  pub told : text ≡ kept_key_text key ++ kept_key_words (Kept other)
+  pub told : text ≡ kept_key_text key ++ kept_key_words (key_answer old.let_go.told since kept)
 
--- The line asks a commit with a key, with which none is kept among the records that are held. It is carried out, and the text is that of its entry, without the key,
--- which is noted for its transaction where it was committed.
+-- The line asks a commit with a key, with which none is kept among the records that are held, nor was among those that were let go, as far
+-- as it was since when the line tells. It is carried out, and the text is that of its entry, without the key, which is noted for its
+-- transaction where it was committed.
 pub record CommittedWithKey (old : Served) (line : List ℕ) (new : Served) (text : List ℕ) : Type 0 where
   pub txn : TxnId
   pub key : List ℕ
-  pub asks : AsksCommit old.site.schema old.site.site line txn key
+  pub since : Option TxnId
+  pub asks : AsksCommit old.site.schema old.site.site line txn key since
   pub tells : TellsKey (held_in old) old.last key None
+  pub answer : key_answer old.let_go.told since None ≡ No
   pub commits : CommitsWith old.site old.last txn key new.site new.last text
   pub let_go : new.let_go ≡ old.let_go
 
--- The line asks which commit is kept with a key. All stays as it is, and the text tells it behind the line.
+-- The line asks which commit is kept with a key; it may tell since when. All stays as it is, and the text tells it behind the line.
 pub record ToldKey (old : Served) (line : List ℕ) (new : Served) (text : List ℕ) : Type 0 where
   pub key : List ℕ
+  pub since : Option TxnId
   pub is_key : IsKey key
-  pub asked : line ≡ kept_key_text key
+  pub since_fits : SinceFits since
+  pub asked : line ≡ with_since (kept_key_text key) since
   pub kept : Option TxnId
   pub tells : TellsKey (held_in old) old.last key kept
   pub still : IsStill old new
-  pub told : text ≡ line ++ kept_key_words (key_answer old.let_go.told kept)
+  pub told : text ≡ line ++ kept_key_words (key_answer old.let_go.told since kept)
 
 -- ---- a line that asks nothing
 
 -- The line has no more than 256 bytes, and is the text neither of a command of a site of the schema, with or without a key, nor of a
--- question for a commit or for a key.
+-- question for a commit or for a key; with a key it may tell since when.
 pub record AsksNothing (schema : SchemaValue) (line : List ℕ) : Type 0 where
   pub short : length line ≤ max_line
   pub command : (site : SiteNo) (command : Command) → site.0 < schema.sites → SiteFits site → CommandFits command
       → line ≢ command_text schema site command
-  pub with_key : (site : SiteNo) (txn : TxnId) (key : List ℕ) → site.0 < schema.sites → SiteFits site
-      → AsksCommit schema site line txn key → ⊥
+  pub with_key : (site : SiteNo) (txn : TxnId) (key : List ℕ) (since : Option TxnId) → site.0 < schema.sites → SiteFits site
+      → AsksCommit schema site line txn key since → ⊥
   pub question : (txn : TxnId) → IdFits txn → line ≢ kept_text txn
-  pub key_question : (key : List ℕ) → IsKey key → line ≢ kept_key_text key
+  pub key_question : (key : List ℕ) (since : Option TxnId) → IsKey key → SinceFits since → line ≢ with_since (kept_key_text key) since
 
 -- The line is the text of a command of this site, with or without a key.
 abbrev pub IsOrder : SchemaValue → SiteNo → List ℕ → Type 0
 IsOrder schema site line =
     ((command : Command) × (line ≡ command_text schema site command))
-    ⊎ ((txn : TxnId) × (key : List ℕ) × AsksCommit schema site line txn key)
+    ⊎ ((txn : TxnId) × (key : List ℕ) × (since : Option TxnId) × AsksCommit schema site line txn key since)
 
 -- Why a line asks nothing of a site: it has more than 256 bytes; or it has no more, and is the text of a command of another site of
 -- the schema, or neither of a command of such a site nor of a question, by what its words tell.
@@ -200,7 +208,7 @@ pub record Passed (old : Served) (line : List ℕ) (new : Served) (text : List �
 -- ---- the answers
 
 -- The answer to a line, whose number the new count tells: the entry of the command that it asks, carried out; the same of a commit
--- with a key, or which commit is kept with the key already; whether a commit is in the log; which one is kept with a key; or that the
+-- with a key, or which commit is kept with the key already, or that one may be forgotten; whether a commit is in the log; which one is kept with a key; or that the
 -- line asks nothing.
 abbrev pub IsAnswer : Served → List ℕ → Served → List ℕ → Type 0
 IsAnswer old line new text =

@@ -10,6 +10,7 @@ use Rattle.log_head.specs.declared.horizon.CommitAnswer.TheVariants.{Yes, No, Fo
 use Rattle.log_head.specs.Horizons.{IsRight}
 use Rattle.std.specs.Map.{lookup}
 use Rattle.entry_text.specs.Spelling.{id_text}
+use Rattle.entry_text.specs.Ranges.{IdFits}
 use Rattle.caller_keys.specs.Tables.{stored_of}
 use Rattle.site_service.specs.declared.key_answer.KeyAnswer.{KeyAnswer}
 use Rattle.site_service.specs.declared.key_answer.KeyAnswer.TheVariants as keys
@@ -67,9 +68,19 @@ if_committed rs (Some txn) = if has_commit txn rs then Some txn else None
 abbrev pub TellsKey : List ℕ → LastNotes → List ℕ → Option TxnId → Type 0
 TellsKey bytes last key kept = (rs : List Record) (rest : List ℕ) → IsLog bytes rs rest → kept ≡ if_committed rs (last_of last key)
 
--- The answer of a key, by the records of a log that is held and by what is told of what was let go.
-abbrev pub AnswersKey : List ℕ → Option Gone → LastNotes → List ℕ → KeyAnswer → Type 0
-AnswersKey held told last key answer = (kept : Option TxnId) × TellsKey held last key kept × (answer ≡ key_answer told kept)
+-- The answer of a key, by the records of a log that is held, by what is told of what was let go, and since when it is asked.
+abbrev pub AnswersKey : List ℕ → Option Gone → LastNotes → List ℕ → Option TxnId → KeyAnswer → Type 0
+AnswersKey held told last key since answer = (kept : Option TxnId) × TellsKey held last key kept × (answer ≡ key_answer told since kept)
+
+-- A text that ends in a key, and behind it since when, where that is told: a position, spelled as a transaction.
+abbrev pub with_since : List ℕ → Option TxnId → List ℕ
+with_since text None = text
+with_since text (Some since) = text ++ (codes " since " ++ id_text since)
+
+-- Such a position has the numbers of a transaction, of 32 bits.
+abbrev pub SinceFits : Option TxnId → Type 0
+SinceFits None = Unit {0}
+SinceFits (Some since) = IdFits since
 
 -- The question which commit is kept with a key.
 abbrev pub kept_key_text : List ℕ → List ℕ

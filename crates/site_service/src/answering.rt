@@ -1,24 +1,24 @@
 //! The answers of a site, as text.
 
-ghost use Rattle.std.specs.Prelude.{◌≡◌, ◌⊎◌, ◌<◌, ◌++◌, ◌∷◌, [], ℕ, Bool, List, Option, length, take, codes, Some, OnOk, OnErr};
+ghost use Rattle.std.specs.Prelude.{◌≡◌, ◌⊎◌, ◌<◌, ◌++◌, ◌∷◌, [], ℕ, Bool, List, Option, length, take, OnOk, OnErr};
 ghost use Rattle.entry_text.specs.Spelling.{command_text, entry_text};
 ghost use Rattle.entry_text.specs.Lines.{max_line};
 ghost use Rattle.kept_records.specs.Keeping.{IsKept};
+ghost use Rattle.field_bounds.specs.declared.entry.Command.{Command as CommandType};
 ghost use Rattle.field_bounds.specs.declared.id.TxnId.{TxnId as Txn};
 ghost use Rattle.caller_keys.specs.Keys.{KeyNote};
 ghost use Rattle.site_service.specs.Answers.{served_of, AsksCommit, CommitsWith, LeavesCommand, LeavesAnswer};
 ghost use Rattle.site_service.specs.Index.{IsIndexOf, IsBehind, GoesOn};
-ghost use Rattle.site_service.specs.Kept.{TellsCommit, TellsKey, kept_words, kept_key_text, kept_key_words};
+ghost use Rattle.site_service.specs.Kept.{TellsCommit, TellsKey, kept_words, kept_key_words};
 ghost use Rattle.site_service.specs.LetGo.{commit_answer, key_answer};
 ghost use Rattle.site_service.specs.Service.{StandsOnHeld, Tells, TellsEntry};
-ghost use Rattle.log_head.specs.declared.gone.Gone.{Gone as GoneValue};
 ghost use Rattle.site_step.specs.Shortening.{held_of};
 
-use crate::asking::{Request, asked};
+use crate::asking::{KeyedCommit, Request, asked};
 use crate::bad_line::add_bad;
 use crate::kept::KeptCommits;
 use crate::key_answer::KeyAnswer;
-use crate::keyed::{add_kept_key, commit_and_note, kept_with};
+use crate::keyed::{add_asked_key, add_kept_key, commit_and_note, kept_with};
 use crate::keys::NotedKeys;
 use crate::telling::{commit_answer, key_answer};
 use caller_keys::Key;
@@ -29,9 +29,6 @@ use kept_records::MemoryMedium;
 use log_head::{CommitAnswer, Gone};
 use site_step::Site;
 use std::alloc::{AllocError, Global};
-
-// How many bytes stand between a commit and its key, in a line: ` key `.
-const KEY_WORD: usize = 5;
 
 // Adds the text of an entry and an LF, or changes nothing where memory is refused.
 fn add_entry(out: &mut Vec<u8>, schema: &Schema, entry: Entry) -> Result<(), AllocError>
@@ -205,98 +202,101 @@ fn tell_key(
     told: &Option<Gone>,
     log: &[u8],
     out: &mut Vec<u8>,
+    line: &[u8],
     key: Key<'_>,
+    since: Option<TxnId>,
 ) -> Result<(), AllocError>
     requires index { IsIndexOf kept.old log.now }
     requires log { IsKept log.now }
     ensures ok { OnOk result ((txn : Option Txn)
         × TellsKey log.now keys.now.last key.entry.bytes.now txn
         × (out.new.items ≡ out.old.items
-        ++ (kept_key_text key.entry.bytes.now ++ kept_key_words (key_answer told.now txn)))) }
+        ++ (line.now ++ kept_key_words (key_answer told.now since txn)))) }
     ensures err { OnErr result (out.new.items ≡ out.old.items) }
     ensures index { IsIndexOf kept.new log.now }
 {
     let txn = kept_with(alloc, kept, keys, log, key)?;
-    add_kept_key(out, key, key_answer(told, txn))?;
+    add_asked_key(out, line, key_answer(told, since, txn))?;
     Ok(())
 }
 
-// What stands in front of the key of a line, and of the word in front of that.
-fn without_key<'a>(line: &'a [u8], key: Key<'_>) -> &'a [u8]
-    requires keyed { (front : List ℕ) × (line.now ≡ front ++ (codes " key " ++ key.bytes.now)) }
-    ensures front { (front : List ℕ) → line.now ≡ front ++ (codes " key " ++ key.entry.bytes.now)
-        → result.now ≡ front }
-{
-    &line[..line.len() - key.bytes.len() - KEY_WORD]
-}
-
-// Carries out the commit that a line spells in front of a key, notes the key where it is committed,
-// and adds its entry as a line. Where memory is refused nothing is added; the commit may have been
-// carried out, and the key noted with it.
+// Carries out a commit with a key, notes the key where it is committed, and adds its entry as a line.
+// Where memory is refused nothing is added; the commit may have been carried out, and the key noted
+// with it.
 fn commit_spelled(
     alloc: Global,
     site: &mut Site<MemoryMedium, GhostHistory<Entry>>,
     schema: &Schema,
     keys: &mut NotedKeys,
     out: &mut Vec<u8>,
-    line: &[u8],
-    txn: TxnId,
-    key: Key<'_>,
+    commit: KeyedCommit<'_>,
 ) -> Result<(), AllocError>
     requires schema { schema.now ≡ site.old.schema }
-    requires asks { AsksCommit schema.now site.old.site line.now txn key.bytes.now }
+    requires spelled { commit.spelled.now ≡ command_text schema.now site.old.site
+        (CommandType.Commit commit.txn) }
     ensures ok { OnOk result ((text : List ℕ)
-        × CommitsWith site.old keys.old.last txn key.entry.bytes.now site.new keys.new.last text
+        × CommitsWith site.old keys.old.last commit.entry.txn commit.entry.key.bytes.now site.new
+        keys.new.last text
         × (out.new.items ≡ out.old.items ++ text)) }
     ensures err { OnErr result (out.new.items ≡ out.old.items) }
     ensures left { OnErr result (((site.new ≡ site.old)
         × (keys.new.last ≡ keys.old.last)) ⊎ ((text : List ℕ)
-        × CommitsWith site.old keys.old.last txn key.entry.bytes.now site.new keys.new.last
-        text)) }
+        × CommitsWith site.old keys.old.last commit.entry.txn commit.entry.key.bytes.now site.new
+        keys.new.last text)) }
     ensures grows { StandsOnHeld site.old → GoesOn site.old site.new }
     ensures behind { (notes : List KeyNote)
         → IsBehind notes keys.old.lines keys.old.last
         → IsBehind notes keys.new.lines keys.new.last }
 {
+    let KeyedCommit {
+        spelled,
+        txn,
+        key,
+        ..
+    } = commit;
     let number = site.site();
-    let spelled = without_key(line, key);
     let reply = commit_and_note(alloc, site, keys, key, txn)?;
     add_spelled(out, schema, spelled, number, Command::Commit { txn }, reply)
 }
 
-// Answers a line that asks a commit with a key: tells which one is kept with it, or carries it out.
+// Answers a line that asks a commit with a key: tells which one is kept with it, or that one may be
+// forgotten, or carries it out.
 fn answer_commit(
     alloc: Global,
     site: &mut Site<MemoryMedium, GhostHistory<Entry>>,
     schema: &Schema,
     kept: &mut KeptCommits,
     keys: &mut NotedKeys,
+    told: &Option<Gone>,
     out: &mut Vec<u8>,
-    line: &[u8],
-    txn: TxnId,
-    key: Key<'_>,
+    commit: KeyedCommit<'_>,
 ) -> Result<(), AllocError>
     requires schema { schema.now ≡ site.old.schema }
-    requires asks { AsksCommit schema.now site.old.site line.now txn key.bytes.now }
+    requires spelled { commit.spelled.now ≡ command_text schema.now site.old.site
+        (CommandType.Commit commit.txn) }
     requires stands { StandsOnHeld site.old }
     requires index { IsIndexOf kept.old (held_of site.old) }
-    ensures ok { (told : Option GoneValue) (count number : ℕ) → OnOk result (Tells line.now
-        (served_of site.old keys.old.last told count)
-        (served_of site.new keys.new.last told number) out.old.items out.new.items) }
+    ensures ok { (line : List ℕ) (count number : ℕ) → AsksCommit schema.now site.old.site line
+        commit.entry.txn commit.entry.key.bytes.now commit.entry.since → OnOk result (Tells line
+        (served_of site.old keys.old.last told.now count)
+        (served_of site.new keys.new.last told.now number) out.old.items out.new.items) }
     ensures err { OnErr result (out.new.items ≡ out.old.items) }
-    ensures left { (told : Option GoneValue) (count number : ℕ) → OnErr result (LeavesAnswer
-        (served_of site.old keys.old.last told count) line.now
-        (served_of site.new keys.new.last told number)) }
+    ensures left { (line : List ℕ) (count number : ℕ) → AsksCommit schema.now site.old.site line
+        commit.entry.txn commit.entry.key.bytes.now commit.entry.since → OnErr result
+        (LeavesAnswer (served_of site.old keys.old.last told.now count) line
+        (served_of site.new keys.new.last told.now number)) }
     ensures grows { GoesOn site.old site.new }
     ensures index { IsIndexOf kept.new (held_of site.new) }
     ensures behind { (notes : List KeyNote)
         → IsBehind notes keys.old.lines keys.old.last
         → IsBehind notes keys.new.lines keys.new.last }
 {
+    let KeyedCommit { key, since, .. } = commit;
     let found = kept_with(alloc, kept, keys, site.medium().bytes(), key)?;
-    match found {
-        Some(other) => add_kept_key(out, key, KeyAnswer::Kept(other)),
-        None => commit_spelled(alloc, site, schema, keys, out, line, txn, key),
+    match key_answer(told, since, found) {
+        KeyAnswer::Kept(other) => add_kept_key(out, key, KeyAnswer::Kept(other)),
+        KeyAnswer::Forgotten => add_kept_key(out, key, KeyAnswer::Forgotten),
+        KeyAnswer::No => commit_spelled(alloc, site, schema, keys, out, commit),
     }
 }
 
@@ -337,14 +337,15 @@ pub(crate) fn answer_line(
 {
     match asked(schema, site.site(), line) {
         Ok(Request::Do(command)) => carry_out_spelled(alloc, site, schema, out, line, command),
-        Ok(Request::Commit(txn, key)) => {
-            answer_commit(alloc, site, schema, kept, keys, out, line, txn, key)
+        Ok(Request::Commit(commit)) => {
+            answer_commit(alloc, site, schema, kept, keys, told, out, commit)
         }
         Ok(Request::Kept(txn)) => {
             tell_commit(alloc, kept, told, site.medium().bytes(), out, line, txn)
         }
-        Ok(Request::KeptKey(key)) => {
-            tell_key(alloc, kept, keys, told, site.medium().bytes(), out, key)
+        Ok(Request::KeptKey(key, since)) => {
+            let log = site.medium().bytes();
+            tell_key(alloc, kept, keys, told, log, out, line, key, since)
         }
         Err(why) => add_bad(out, number, why),
     }

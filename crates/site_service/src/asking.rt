@@ -1,15 +1,14 @@
 //! What a line asks of a site.
 
-ghost use Rattle.std.specs.Prelude.{◌≡◌, ◌≢◌, ◌≤◌, ◌++◌, ◌∷◌, ℕ, List, length, codes, MatchOption, IfOk, IfErr, OnOk, IfSome, IfNone};
+ghost use Rattle.std.specs.Prelude.{◌≡◌, ◌≢◌, ◌≤◌, ◌++◌, ◌∷◌, ℕ, List, Option, length, codes, MatchOption, IfOk, IfErr, OnOk, IfSome, IfNone};
 ghost use Rattle.field_bounds.specs.declared.id.SiteNo.{SiteNo as Site};
 ghost use Rattle.field_bounds.specs.declared.id.TxnId.{TxnId as Txn};
 ghost use Rattle.field_bounds.specs.declared.entry.Command.{Command as CommandType};
 ghost use Rattle.entry_text.specs.Lines.{max_line};
 ghost use Rattle.entry_text.specs.Ranges.{SiteFits, IdFits};
-ghost use Rattle.entry_text.specs.Spelling.{command_text};
-ghost use Rattle.caller_keys.specs.Keys.{IsKey};
+ghost use Rattle.entry_text.specs.Spelling.{command_text, id_text};
 ghost use Rattle.site_service.specs.Answers.{AsksCommit, IsBad};
-ghost use Rattle.site_service.specs.Asking.{IsAsked, IsQuestion, AsksNoQuestion, AsksNoCommand, HasNoSpace, IsCutAtKey};
+ghost use Rattle.site_service.specs.Asking.{IsAsked, IsQuestion, AsksKey, AsksNoQuestion, AsksNoCommand, HasNoSpace, IsCutAtKey, IsCutAtSince, SpellsCommit};
 
 use crate::bad_line::BadLine;
 use crate::line_fault::fault_in;
@@ -18,17 +17,30 @@ use entry_text::{MAX_LINE, read_command, read_txn};
 use field_bounds::{Command, Schema, SiteNo, TxnId};
 use memchr::memrchr;
 
+/// A commit with a key of its caller.
+#[derive(Clone, Copy)]
+pub(crate) struct KeyedCommit<'a> {
+    /// The text of the commit without its key, as the line spells it.
+    pub(crate) spelled: &'a [u8],
+    /// The transaction.
+    pub(crate) txn: TxnId,
+    /// The key.
+    pub(crate) key: Key<'a>,
+    /// The position behind which each commit with the key is, where the line tells one.
+    pub(crate) since: Option<TxnId>,
+}
+
 /// What a line asks.
 #[derive(Clone, Copy)]
 pub(crate) enum Request<'a> {
     /// To carry out a command of this site.
     Do(Command),
-    /// To commit this transaction of this site, unless a commit with the key is kept.
-    Commit(TxnId, Key<'a>),
+    /// To carry out this commit of this site, unless one with its key is kept, or may be forgotten.
+    Commit(KeyedCommit<'a>),
     /// Whether the commit of this transaction is in the log.
     Kept(TxnId),
-    /// Which commit is kept with this key.
-    KeptKey(Key<'a>),
+    /// Which commit is kept with this key; each is behind the position, where one is told.
+    KeptKey(Key<'a>, Option<TxnId>),
 }
 
 // What stands behind the word `kept`.
@@ -42,41 +54,6 @@ fn behind_kept(line: &[u8]) -> Option<&[u8]>
     }
 }
 
-// What stands behind the word `key`.
-fn behind_key(word: &[u8]) -> Option<&[u8]>
-    ensures rest { MatchOption result ((rest : List ℕ) → word.now ≢ codes "key " ++ rest)
-        (λ rest. word.now ≡ codes "key " ++ rest.now) }
-{
-    match word.strip_prefix(b"key ") {
-        Some(rest) => Some(rest),
-        None => None,
-    }
-}
-
-// The key of which a line asks, by what stands behind `kept`.
-fn asked_key(word: &[u8]) -> Option<Key<'_>>
-    ensures some { IfSome result (λ key. word.now ≡ codes "key " ++ key.bytes.now) }
-    ensures is_key { IfSome result (λ key. IsKey key.bytes.now) }
-    ensures none { IfNone result ((key : List ℕ) → IsKey key → word.now ≢ codes "key " ++ key) }
-{
-    match behind_key(word) {
-        Some(rest) => read_key(rest),
-        None => None,
-    }
-}
-
-// What a line asks that is a question.
-fn asked_question(line: &[u8]) -> Option<Request<'_>>
-    ensures some { IfSome result (IsQuestion line.now) }
-    ensures none { IfNone result (AsksNoQuestion line.now) }
-{
-    let word = behind_kept(line)?;
-    match read_txn(word) {
-        Some(txn) => Some(Request::Kept(txn)),
-        None => Some(Request::KeptKey(asked_key(word)?)),
-    }
-}
-
 // What stands in front of the last space of a line, and behind it.
 fn split_last(line: &[u8]) -> Option<(&[u8], &[u8])>
     ensures parts { IfSome result (λ parts. line.now ≡ parts.0.now ++ 32 ∷ parts.1.now) }
@@ -87,6 +64,82 @@ fn split_last(line: &[u8]) -> Option<(&[u8], &[u8])>
         Some(at) => Some((&line[..at], &line[at + 1..])),
         None => None,
     }
+}
+
+// What stands in front of the last word, where that is `since`.
+fn before_since(front: &[u8]) -> Option<&[u8]>
+    ensures before { MatchOption result
+        ((before : List ℕ) → front.now ≢ before ++ codes " since")
+        (λ before. front.now ≡ before.now ++ codes " since") }
+{
+    match front.strip_suffix(b" since") {
+        Some(before) => Some(before),
+        None => None,
+    }
+}
+
+// What stands in front of the word `since` and a position, and that position.
+fn told_since(line: &[u8]) -> Option<(&[u8], TxnId)>
+    ensures some { IfSome result (λ told. line.now
+        ≡ told.0.now ++ (codes " since " ++ id_text told.1)) }
+    ensures fits { IfSome result (λ told. IdFits told.1) }
+    ensures none { IfNone result ((front : List ℕ) (since : Txn) → IdFits since
+        → line.now ≢ front ++ (codes " since " ++ id_text since)) }
+{
+    let (front, word) = split_last(line)?;
+    let before = before_since(front)?;
+    match read_txn(word) {
+        Some(since) => Some((before, since)),
+        None => None,
+    }
+}
+
+// What stands in front of where a line tells since when, and since when; all of it where it doesn't.
+fn split_since(line: &[u8]) -> (&[u8], Option<TxnId>)
+    ensures { IsCutAtSince line.now result.0.now result.1 }
+{
+    match told_since(line) {
+        Some((front, since)) => (front, Some(since)),
+        None => (line, None),
+    }
+}
+
+// What stands behind the words `kept key`.
+fn behind_kept_key(front: &[u8]) -> Option<&[u8]>
+    ensures rest { MatchOption result ((rest : List ℕ) → front.now ≢ codes "kept key " ++ rest)
+        (λ rest. front.now ≡ codes "kept key " ++ rest.now) }
+{
+    match front.strip_prefix(b"kept key ") {
+        Some(rest) => Some(rest),
+        None => None,
+    }
+}
+
+// The key of which a line asks, and since when.
+fn asked_key(line: &[u8]) -> Option<(Key<'_>, Option<TxnId>)>
+    ensures some { IfSome result (λ asked. AsksKey line.now asked.0.bytes.now asked.1) }
+    ensures none { IfNone result ((key : List ℕ) (since : Option Txn)
+        → AsksKey line.now key since → ⊥) }
+{
+    let (front, since) = split_since(line);
+    let rest = behind_kept_key(front)?;
+    match read_key(rest) {
+        Some(key) => Some((key, since)),
+        None => None,
+    }
+}
+
+// What a line asks that is a question.
+fn asked_question(line: &[u8]) -> Option<Request<'_>>
+    ensures some { IfSome result (IsQuestion line.now) }
+    ensures none { IfNone result (AsksNoQuestion line.now) }
+{
+    let word = behind_kept(line)?;
+    if let Some(txn) = read_txn(word) {
+        return Some(Request::Kept(txn));
+    }
+    let (key, since) = asked_key(line)?;
+    Some(Request::KeptKey(key, since))
 }
 
 // What stands in front of the last word, where that is `key`.
@@ -138,20 +191,24 @@ fn read_commit(schema: &Schema, text: &[u8]) -> Option<(SiteNo, TxnId)>
     }
 }
 
-// The site, the transaction and the key of a commit with a key that a line spells.
-fn read_with_key<'a>(schema: &Schema, line: &'a [u8]) -> Option<(SiteNo, TxnId, Key<'a>)>
-    ensures some { IfSome result (λ asked. AsksCommit schema.now asked.0 line.now asked.1
-        asked.2.bytes.now) }
-    ensures only { (site : Site) (txn : Txn) (key : List ℕ) → SiteFits site
-        → AsksCommit schema.now site line.now txn key
+// The site of a commit with a key that a line spells, and that commit.
+fn read_with_key<'a>(schema: &Schema, line: &'a [u8]) -> Option<(SiteNo, KeyedCommit<'a>)>
+    ensures some { IfSome result (λ asked. SpellsCommit schema.now asked.0 line.now asked.1) }
+    ensures only { (site : Site) (txn : Txn) (key : List ℕ) (since : Option Txn) → SiteFits site
+        → AsksCommit schema.now site line.now txn key since
         → MatchOption result ⊥ (λ asked. asked.0 ≡ site) }
 {
-    let (front, word) = split_key(line)?;
+    let (order, since) = split_since(line);
+    let (spelled, word) = split_key(order)?;
     let key = read_key(word)?;
-    match read_commit(schema, front) {
-        Some((site, txn)) => Some((site, txn, key)),
-        None => None,
-    }
+    let (site, txn) = read_commit(schema, spelled)?;
+    let commit = KeyedCommit {
+        spelled,
+        txn,
+        key,
+        since,
+    };
+    Some((site, commit))
 }
 
 // What a line asks of this site by a commit with a key, or why it asks nothing. It spells no command
@@ -167,11 +224,11 @@ fn asked_with_key<'a>(
     ensures ok { IfOk result (IsAsked schema.now number line.now) }
     ensures err { IfErr result (IsBad schema.now number line.now) }
 {
-    let Some((site, txn, key)) = read_with_key(schema, line) else {
+    let Some((site, commit)) = read_with_key(schema, line) else {
         return Err(fault_in(schema, line));
     };
     if number == site {
-        return Ok(Request::Commit(txn, key));
+        return Ok(Request::Commit(commit));
     }
     if schema.sites() > site.0 {
         return Err(BadLine::OtherSite);

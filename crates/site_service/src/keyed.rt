@@ -134,6 +134,49 @@ fn push_txn(out: &mut Vec<u8>, txn: TxnId) -> Result<(), AllocError>
     out.extend_from_slice(b"\n")
 }
 
+// Adds what is told behind the question for a key. Where memory is refused a front may have been
+// added.
+fn push_answer(out: &mut Vec<u8>, kept: KeyAnswer) -> Result<(), AllocError>
+    ensures ok { OnOk result (out.new.items ≡ out.old.items ++ kept_key_words kept) }
+    ensures err { OnErr result (take (length out.old.items) out.new.items ≡ out.old.items) }
+{
+    match kept {
+        KeyAnswer::Kept(txn) => push_txn(out, txn),
+        KeyAnswer::No => out.extend_from_slice(b" -> no\n"),
+        KeyAnswer::Forgotten => out.extend_from_slice(b" -> forgotten\n"),
+    }
+}
+
+// Adds a line that asks for a key, and its answer. Where memory is refused a front may have been
+// added.
+fn push_asked(out: &mut Vec<u8>, line: &[u8], kept: KeyAnswer) -> Result<(), AllocError>
+    ensures ok { OnOk result (out.new.items
+        ≡ out.old.items ++ (line.now ++ kept_key_words kept)) }
+    ensures err { OnErr result (take (length out.old.items) out.new.items ≡ out.old.items) }
+{
+    out.extend_from_slice(line)?;
+    push_answer(out, kept)
+}
+
+/// Adds a line that asks which commit is kept with a key, and its answer, or nothing where memory is
+/// refused.
+pub(crate) fn add_asked_key(
+    out: &mut Vec<u8>,
+    line: &[u8],
+    kept: KeyAnswer,
+) -> Result<(), AllocError>
+    ensures ok { OnOk result (out.new.items
+        ≡ out.old.items ++ (line.now ++ kept_key_words kept)) }
+    ensures err { OnErr result (out.new.items ≡ out.old.items) }
+{
+    let before = out.len();
+    if push_asked(out, line, kept).is_err() {
+        out.truncate(before);
+        return Err(AllocError);
+    }
+    Ok(())
+}
+
 // Adds the question for a key and its answer. Where memory is refused a front may have been added.
 fn push_kept(out: &mut Vec<u8>, key: Key<'_>, kept: KeyAnswer) -> Result<(), AllocError>
     ensures ok { OnOk result (out.new.items
@@ -142,14 +185,10 @@ fn push_kept(out: &mut Vec<u8>, key: Key<'_>, kept: KeyAnswer) -> Result<(), All
 {
     out.extend_from_slice(b"kept key ")?;
     out.extend_from_slice(key.bytes)?;
-    match kept {
-        KeyAnswer::Kept(txn) => push_txn(out, txn),
-        KeyAnswer::No => out.extend_from_slice(b" -> no\n"),
-        KeyAnswer::Forgotten => out.extend_from_slice(b" -> forgotten\n"),
-    }
+    push_answer(out, kept)
 }
 
-/// Adds which commit is kept with a key, as a line, or nothing where memory is refused.
+/// Adds the question for a key with its answer, as a line, or nothing where memory is refused.
 pub(crate) fn add_kept_key(
     out: &mut Vec<u8>,
     key: Key<'_>,

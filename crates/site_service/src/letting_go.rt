@@ -70,9 +70,9 @@ pub(crate) fn counted(told: &Option<Gone>, bytes: u64, records: u64) -> Option<(
     Some((bytes, records))
 }
 
-// Whether a transaction is of an earlier epoch than another, or of its epoch with a number up to its
-// own.
-fn is_up_to(latest: TxnId, txn: TxnId) -> bool
+/// Whether a transaction is of an earlier epoch than another, or of its epoch with a number up to its
+/// own.
+pub(crate) fn is_up_to(latest: TxnId, txn: TxnId) -> bool
     ensures { result ≡ is_up_to latest txn }
 {
     txn.epoch < latest.epoch || (txn.epoch == latest.epoch && txn.number <= latest.number)

@@ -9,7 +9,7 @@ ghost use Rattle.site_service.specs.Answers.{LeavesAnswer, whole_of, site_of, he
 ghost use Rattle.site_step.specs.Shortening.{held_of};
 ghost use Rattle.site_service.specs.Index.{IsFollowed};
 ghost use Rattle.site_service.specs.Kept.{AnswersCommit, AnswersKey, IsRightOf};
-ghost use Rattle.site_service.specs.LetGo.{IsTold, let_go_of, nothing_gone};
+ghost use Rattle.site_service.specs.LetGo.{IsRightOfKey, IsTold, let_go_of, nothing_gone};
 ghost use Rattle.site_service.specs.Opening.{IsOpened, IsStarted, IsSafe, KeepsLines, SparesLines, TellsBadLine};
 ghost use Rattle.site_service.specs.Service.{Grows, StandsOnHeld, AddsNotesFirst, IsSettled, KeepsLog, HasApplied, HasAnswered, LetsOut, HoldsBack};
 ghost use Rattle.site_service.specs.Serving.{CountsWrites};
@@ -287,11 +287,24 @@ impl<F: LogFile> Service<F> {
     /// The transaction whose commit is in the log with this key, where one is: so a client finds out
     /// whose answer didn't come, and that no other commit with the key will be carried out. It is
     /// that of the last note of the key, and is safe as for `has_kept`. Where none is among the
-    /// records that are held it is no, or forgotten where any were let go. The error is want of
-    /// memory. Costs a look-up of the key, and what `has_kept` costs.
-    pub fn kept_key(&mut self, alloc: Global, key: Key<'_>) -> Result<KeyAnswer, AllocError>
+    /// records that are held it is no, or forgotten where one may be among those that were let go:
+    /// any may, unless a position is given behind which each commit with the key is, as of a later
+    /// epoch or a greater number of its epoch, and the commits that were let go don't reach behind
+    /// that. So whoever is to commit with a key writes a position down first, that of any transaction
+    /// of the site so far. The error is want of memory. Costs a look-up of the key, and what
+    /// `has_kept` costs.
+    pub fn kept_key(
+        &mut self,
+        alloc: Global,
+        key: Key<'_>,
+        since: Option<TxnId>,
+    ) -> Result<KeyAnswer, AllocError>
         ensures kept { IfOk result (AnswersKey (held_in self.old.served)
-            self.old.served.let_go.told self.old.served.last key.entry.bytes.now) }
+            self.old.served.let_go.told self.old.served.last key.entry.bytes.now since) }
+
+        // Where it is no, no commit of a transaction behind the position was let go; nothing was,
+        // where none is given.
+        ensures right { IfOk result (IsRightOfKey self.old.served.let_go.gone since) }
         ensures same { self.new ≡ self.old }
     {
         let found = kept_with(
@@ -301,7 +314,7 @@ impl<F: LogFile> Service<F> {
             self.site.medium().bytes(),
             key,
         )?;
-        Ok(key_answer(&self.told, found))
+        Ok(key_answer(&self.told, since, found))
     }
 
     /// Carries out a command; the line of its entry waits. Where memory is refused no answer waits;
@@ -328,8 +341,8 @@ impl<F: LogFile> Service<F> {
 
     /// Answers a line, without its LF: the entry of the command that it asks of this site; or `bad
     /// line N WHY`, N the number of the line, from 1 since the service was opened. The answer
-    /// waits. A commit with a key is carried out only where none is kept with the key, and else
-    /// answered by which one is. The answer to a line of more than 256 bytes is that to any other
+    /// waits. A commit with a key is carried out only where `kept_key` tells no, and else answered by
+    /// what it tells: nothing has changed then. The answer to a line of more than 256 bytes is that to any other
     /// such line. Where memory is refused no answer waits; a command may have been carried out, and
     /// the key of a commit is noted then.
     pub fn answer(&mut self, alloc: Global, line: &[u8]) -> Result<(), AllocError>

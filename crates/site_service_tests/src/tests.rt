@@ -5,6 +5,7 @@ mod faults;
 mod kept;
 mod keys;
 mod shortening;
+mod since;
 mod starts;
 mod traces;
 mod turns;

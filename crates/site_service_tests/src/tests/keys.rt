@@ -284,8 +284,8 @@ fn keys_of<F: LogFile>(
     let known = read_key(b"order-1").expect(rt, "a key");
     let other = read_key(b"order-2").expect(rt, "a key");
     [
-        service.kept_key(alloc, known),
-        service.kept_key(alloc, other),
+        service.kept_key(alloc, known, None),
+        service.kept_key(alloc, other, None),
     ]
 }
 

@@ -11,6 +11,7 @@ use site_folder::Identity;
 mod behind;
 mod listed;
 mod serving;
+mod since;
 
 const HEADER: &str =
     r#"{"sites":2,"fields":[{"name":"stock","floor":0,"ceiling":100,"value":40}]}"#;
@@ -71,10 +72,10 @@ R 2
 sum 00000a5000014b03
 ";
 
-/// What the log gets behind that where a commit with the key `k` is carried out.
-const NEXT: &str = "K 2 1 6B
+/// What the log gets behind that where a commit with the key `n` is carried out.
+const NEXT: &str = "K 2 1 6E
 C 2 1 0 -1
-sum 0000034e000024f3
+sum 000003510000251a
 ";
 
 /// A log with one summary, which can't be shortened.
@@ -115,14 +116,21 @@ const BEHIND: [(&str, &str); 10] = [
     ("0 share stock", "0 share stock -> share 15 35"),
 ];
 
-/// A key that is forgotten is that of another commit then; one that is kept isn't.
-const GOES_ON: [(&str, &str); 6] = [
+/// No key that is kept or forgotten is that of another commit. The transaction stays open, and a key
+/// that is new behind what was let go is that of its commit.
+const GOES_ON: [(&str, &str); 12] = [
     ("0 begin", "0 begin -> begun 2.1"),
     ("0 escrow 2.1 stock -1", "0 escrow 2.1 stock -1 -> granted"),
     ("0 commit 2.1 key kk", "kept key kk -> 1.3"),
-    ("0 commit 2.1 key k", "0 commit 2.1 -> committed"),
-    ("kept key k", "kept key k -> 2.1"),
+    ("0 commit 2.1 key k", "kept key k -> forgotten"),
+    ("0 commit 2.1 key n", "kept key n -> forgotten"),
+    ("kept 2.1", "kept 2.1 -> no"),
+    ("kept key n", "kept key n -> forgotten"),
+    ("0 commit 2.1 key n since 1.2", "0 commit 2.1 -> committed"),
+    ("kept key n", "kept key n -> 2.1"),
+    ("kept key k", "kept key k -> forgotten"),
     ("kept 2.1", "kept 2.1 -> yes"),
+    ("0 share stock", "0 share stock -> share 14 36"),
 ];
 
 /// The answer of the opening.
@@ -232,12 +240,18 @@ fn the_calls_tell_what_is_forgotten(rt: HostRuntime) {
     }
     let gone = read_key(b"k").expect(&rt, "a key");
     let held = read_key(b"kk").expect(&rt, "a key");
-    assert_eq!(&rt; service.kept_key(alloc, gone), Ok(KeyAnswer::Forgotten));
+    assert_eq!(&rt;
+        service.kept_key(alloc, gone, None),
+        Ok(KeyAnswer::Forgotten)
+    );
     let third = TxnId {
         epoch: 1,
         number: 3,
     };
-    assert_eq!(&rt; service.kept_key(alloc, held), Ok(KeyAnswer::Kept(third)));
+    assert_eq!(&rt;
+        service.kept_key(alloc, held, None),
+        Ok(KeyAnswer::Kept(third))
+    );
 }
 
 // Behind the one summary stands no other.
