@@ -47,8 +47,8 @@ def needs_of() -> dict[str, list[str]]:
 
 def graph() -> str:
     needs, below, texts = needs_of(), dict[str, set[str]](), list[str]()
-    for comment, floor in floors_of():
-        lines = [f"    # {comment.partition(':')[0].rstrip('.')}"]
+    for _, floor in floors_of():
+        lines = list[str]()
         for crate, named in floor.items():
             crates = [it for it in named if it in needs]
             below[crate] = set(crates).union(*(below[it] for it in crates))
