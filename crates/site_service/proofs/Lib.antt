@@ -20,6 +20,7 @@ pub mod Questions
 pub mod LastWords
 pub mod Told
 pub mod Lines
+pub mod LessHeld
 pub mod Batches
 pub mod Tracing
 pub mod WordFaults
