@@ -18,6 +18,7 @@ pub mod Shortens
 pub mod Starts
 pub mod Questions
 pub mod LastWords
+pub mod Since
 pub mod Told
 pub mod Lines
 pub mod LessHeld
