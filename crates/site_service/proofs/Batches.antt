@@ -1,5 +1,5 @@
 -- What was written when a batch is let out, and where the serving ends.
-use Rattle.std.proofs.Common.{◌≡◌, ◌<◌, ℕ, List, [], ◌++◌, ◌+◌, ◌⊎◌, Option, Result, length, take, refl, sym, ap, ◌∙◌, subst, inl, inr, append_assoc, append-nil, arith}
+use Rattle.std.proofs.Common.{◌≡◌, ◌<◌, ℕ, Bool, true, List, [], ◌++◌, ◌+◌, ◌⊎◌, Option, Result, length, take, refl, sym, ap, ◌∙◌, subst, inl, inr, append_assoc, append-nil, arith}
 use Rattle.std.proofs.Math.Seq.{take-append-add}
 use Rattle.std.proofs.lemmas.List.{length-append}
 use Rattle.std.specs.Io.KnownBytes.{Appends, Consumes, Keeps}
@@ -9,23 +9,29 @@ use Rattle.script_input.specs.Streams.{AppendsPrefix}
 use Rattle.script_input.proofs.LineLemmas.{whole_lines_after-append, last_part_after-append}
 use Rattle.site_service.specs.declared.fault.ServeFault.{ServeFault}
 use Rattle.site_service.specs.declared.fault.ServeFault.TheVariants as faults
-use Rattle.site_service.specs.Answers.{held_in, AnswersLines}
+use Rattle.site_service.specs.Answers.{Served, held_in}
+use Rattle.site_service.specs.Keeping.{Shortens, AnswersBy}
 use Rattle.site_service.specs.Service.{ServiceValue, HoldsText, IsSettled, KeepsLog, HasAnsweredAll, LetsOut, HoldsBack}
+use Rattle.site_service.specs.Shortening.{LeavesEither}
 use Rattle.site_service.specs.Serving.{IsKeptOf, Serves, ServesPart, Stops, StopsAtOnce, IsOutAt, IsLongAt, reads_failed, CountsReads, CountsWrites}
 use Rattle.site_service.specs.Traces.{TraceValue, HasTold, HasKept}
 use Rattle.site_service.proofs.Links.{settled_text}
-use Rattle.site_service.proofs.Lines.{answers_after}
+use Rattle.site_service.proofs.LessHeld.{answers_none, answers_more, answers_shorter, safe_at}
 use Rattle.site_service.proofs.Tracing.{told_none, told_more, kept_of, kept_front}
 
+-- nothing was answered
+answers_still : (shortens : Bool) (start now : ServiceValue) → now.served ≡ start.served → AnswersBy shortens start.served [] now.served []
+answers_still shortens start now same = subst (λ (s : Served). AnswersBy shortens start.served [] s []) (sym same) (answers_none shortens start.served)
+
 -- what waited at first is let out, and nothing was read
-pub serves_none : (from before after : Option (List ℕ)) (trace : TraceValue) (start now : ServiceValue) → now.served ≡ start.served
-    → LetsOut before after start now → ServesPart from from before after trace trace start now [] 0
-serves_none from before after trace start now same out = record {
+pub serves_none : (shortens : Bool) (from before after : Option (List ℕ)) (trace : TraceValue) (start now : ServiceValue) → now.served ≡ start.served
+    → LetsOut before after start now → ServesPart shortens from from before after trace trace start now [] 0
+serves_none shortens from before after trace start now same out = record {
   serves = record {
     read = [];
     consumed = Consumes-nil from;
     text = [];
-    answers = (same, refl);
+    answers = answers_still shortens start now same;
     written = subst (Appends before after) (sym (append-nil start.waiting)) out.out;
     waiting = out.waiting;
     settled = out.settled;
@@ -36,17 +42,17 @@ serves_none from before after trace start now same out = record {
 }
 
 -- what was let out couldn't be written whole
-pub stops_first : (from before after : Option (List ℕ)) (trace : TraceValue) (start now : ServiceValue) → now.served ≡ start.served
-    → IsSettled now → AppendsPrefix before after start.waiting → Stops from from before after trace trace start now faults.Write
-stops_first from before after trace start now same settled front = record {
+pub stops_first : (shortens : Bool) (from before after : Option (List ℕ)) (trace : TraceValue) (start now : ServiceValue) → now.served ≡ start.served
+    → IsSettled now → AppendsPrefix before after start.waiting → Stops shortens from from before after trace trace start now faults.Write
+stops_first shortens from before after trace start now same settled front = record {
   front = [];
   back = [];
   consumed = Consumes-nil from;
   last = now.served;
   text = [];
-  answers = (same, refl);
+  answers = answers_still shortens start now same;
   out = subst (AppendsPrefix before after) (sym (append-nil start.waiting)) front;
-  safe = settled_text now settled;
+  safe = safe_at shortens faults.Write now.served now.safe (settled_text now settled);
   told = kept_of trace trace [] (told_none trace);
   long = tt;
 }
@@ -61,12 +67,12 @@ prefix_after before middle after written out wrote front = (
 )
 
 -- A fault in front of which all batches were let out: what was read since is the back.
-pub stops_behind : (from mid to before after : Option (List ℕ)) (trace half traced : TraceValue) (start now later : ServiceValue)
-    (line piece : List ℕ) (reads : ℕ) (part : ServesPart from mid before after trace half start now line reads) → Consumes mid to piece
+pub stops_behind : (shortens : Bool) (from mid to before after : Option (List ℕ)) (trace half traced : TraceValue) (start now later : ServiceValue)
+    (line piece : List ℕ) (reads : ℕ) (part : ServesPart shortens from mid before after trace half start now line reads) → Consumes mid to piece
     → later.safe ≡ now.safe → HasKept trace traced part.serves.text → (fault : ServeFault)
     → IsOutAt fault before after (start.waiting ++ part.serves.text) → IsLongAt fault part.serves.read
-    → Stops from to before after trace traced start later fault
-stops_behind from mid to before after trace half traced start now later line piece reads part more same told fault out long =
+    → Stops shortens from to before after trace traced start later fault
+stops_behind shortens from mid to before after trace half traced start now later line piece reads part more same told fault out long =
     let s = part.serves in record {
       front = s.read;
       back = piece;
@@ -75,16 +81,17 @@ stops_behind from mid to before after trace half traced start now later line pie
       text = s.text;
       answers = s.answers;
       out = out;
-      safe = subst (λ (k : Option (List ℕ)). HoldsText k now.served.last (held_in now.served)) (sym same) (settled_text now s.settled);
+      safe = safe_at shortens fault now.served later.safe
+          (subst (λ (k : Option (List ℕ)). HoldsText k now.served.last (held_in now.served)) (sym same) (settled_text now s.settled));
       told = told;
       long = long;
     }
 
 -- no byte was read since
-pub stops_kept : (from mid to before after : Option (List ℕ)) (trace traced : TraceValue) (start now : ServiceValue) (line : List ℕ)
-    (reads : ℕ) → ServesPart from mid before after trace traced start now line reads → Keeps mid to
-    → Stops from to before after trace traced start now faults.Read
-stops_kept from mid to before after trace traced start now line reads part keeps =
+pub stops_kept : (shortens : Bool) (from mid to before after : Option (List ℕ)) (trace traced : TraceValue) (start now : ServiceValue) (line : List ℕ)
+    (reads : ℕ) → ServesPart shortens from mid before after trace traced start now line reads → Keeps mid to
+    → Stops shortens from to before after trace traced start now faults.Read
+stops_kept shortens from mid to before after trace traced start now line reads part keeps =
     let s = part.serves in record {
       front = s.read;
       back = [];
@@ -93,16 +100,16 @@ stops_kept from mid to before after trace traced start now line reads part keeps
       text = s.text;
       answers = s.answers;
       out = s.written;
-      safe = settled_text now s.settled;
+      safe = safe_at shortens faults.Read now.served now.safe (settled_text now s.settled);
       told = kept_of trace traced s.text s.told;
       long = tt;
     }
 
 -- the end of the input
-pub serves_all : (from mid to before after : Option (List ℕ)) (trace traced : TraceValue) (start now : ServiceValue) (line : List ℕ)
-    (reads : ℕ) → ServesPart from mid before after trace traced start now line reads → Consumes mid to []
-    → Serves from to before after trace traced start now
-serves_all from mid to before after trace traced start now line reads part none =
+pub serves_all : (shortens : Bool) (from mid to before after : Option (List ℕ)) (trace traced : TraceValue) (start now : ServiceValue) (line : List ℕ)
+    (reads : ℕ) → ServesPart shortens from mid before after trace traced start now line reads → Consumes mid to []
+    → Serves shortens from to before after trace traced start now
+serves_all shortens from mid to before after trace traced start now line reads part none =
     let s = part.serves in record {
       read = s.read;
       consumed = subst (Consumes from to) (append-nil s.read) (Consumes-trans from mid to s.read [] s.consumed none);
@@ -116,17 +123,17 @@ serves_all from mid to before after trace traced start now line reads part none 
 
 -- ---- a batch
 
-module _ (from mid to before half after : Option (List ℕ)) (trace earlier traced : TraceValue) (start now answered : ServiceValue)
-    (line piece : List ℕ) (reads : ℕ) (part : ServesPart from mid before half trace earlier start now line reads) (more : Consumes mid to piece)
+module _ (shortens : Bool) (from mid to before half after : Option (List ℕ)) (trace earlier traced : TraceValue) (start now answered : ServiceValue)
+    (line piece : List ℕ) (reads : ℕ) (part : ServesPart shortens from mid before half trace earlier start now line reads) (more : Consumes mid to piece)
     (all : HasAnsweredAll (whole_lines_after (last_part part.serves.read) piece) now answered)
     (told : HasTold earlier traced answered.waiting) where
   lines_read : whole_lines (part.serves.read ++ piece) ≡ whole_lines part.serves.read ++ whole_lines_after (last_part part.serves.read) piece
   lines_read = whole_lines_after-append [] part.serves.read piece
 
-  answers_read : AnswersLines start.served (whole_lines (part.serves.read ++ piece)) answered.served (part.serves.text ++ all.text)
+  answers_read : AnswersBy shortens start.served (whole_lines (part.serves.read ++ piece)) answered.served (part.serves.text ++ all.text)
   answers_read =
-      subst (λ (ls : List (List ℕ)). AnswersLines start.served ls answered.served (part.serves.text ++ all.text)) (sym lines_read)
-      (answers_after start.served now.served answered.served (whole_lines part.serves.read)
+      subst (λ (ls : List (List ℕ)). AnswersBy shortens start.served ls answered.served (part.serves.text ++ all.text)) (sym lines_read)
+      (answers_more shortens start.served now.served answered.served (whole_lines part.serves.read)
       (whole_lines_after (last_part part.serves.read) piece) part.serves.text all.text part.serves.answers all.answers)
 
   -- what waits is the text of the batch
@@ -144,13 +151,13 @@ module _ (from mid to before half after : Option (List ℕ)) (trace earlier trac
   -- it is let out
   pub serves_batch : 0 < length piece → (later : ServiceValue) (left : List ℕ) → later.served ≡ answered.served → LetsOut half after answered later
       → IsKeptOf (last_part_after (last_part part.serves.read) piece) left
-      → ServesPart from to before after trace traced start later left (reads + 1)
+      → ServesPart shortens from to before after trace traced start later left (reads + 1)
   serves_batch brought later left same out keeps = record {
     serves = record {
       read = part.serves.read ++ piece;
       consumed = Consumes-trans from mid to part.serves.read piece part.serves.consumed more;
       text = part.serves.text ++ all.text;
-      answers = subst (λ s. AnswersLines start.served (whole_lines (part.serves.read ++ piece)) s (part.serves.text ++ all.text)) (sym same)
+      answers = subst (λ s. AnswersBy shortens start.served (whole_lines (part.serves.read ++ piece)) s (part.serves.text ++ all.text)) (sym same)
           answers_read;
       written = subst (Appends before after) texts
           (Appends-trans before half after (start.waiting ++ part.serves.text) answered.waiting part.serves.written out.out);
@@ -164,7 +171,7 @@ module _ (from mid to before half after : Option (List ℕ)) (trace earlier trac
 
   -- a front of it is written
   pub stops_batch : (later : ServiceValue) → later.served ≡ answered.served → IsSettled later → AppendsPrefix half after answered.waiting
-      → Stops from to before after trace traced start later faults.Write
+      → Stops shortens from to before after trace traced start later faults.Write
   stops_batch later same settled front = record {
     front = part.serves.read ++ piece;
     back = [];
@@ -172,50 +179,87 @@ module _ (from mid to before half after : Option (List ℕ)) (trace earlier trac
         (Consumes-trans from mid to part.serves.read piece part.serves.consumed more);
     last = later.served;
     text = part.serves.text ++ all.text;
-    answers = subst (λ s. AnswersLines start.served (whole_lines (part.serves.read ++ piece)) s (part.serves.text ++ all.text)) (sym same)
+    answers = subst (λ s. AnswersBy shortens start.served (whole_lines (part.serves.read ++ piece)) s (part.serves.text ++ all.text)) (sym same)
         answers_read;
     out = subst (AppendsPrefix before after) texts
         (prefix_after before half after (start.waiting ++ part.serves.text) answered.waiting part.serves.written front);
-    safe = settled_text later settled;
+    safe = safe_at shortens faults.Write later.served later.safe (settled_text later settled);
     told = kept_of trace traced (part.serves.text ++ all.text) told_batch;
     long = tt;
   }
 
   -- the log failed behind the trace
-  pub stops_device : (later : ServiceValue) → later.safe ≡ now.safe → half ≡ after → Stops from to before after trace traced start later faults.Device
+  pub stops_device : (later : ServiceValue) → later.safe ≡ now.safe → half ≡ after → Stops shortens from to before after trace traced start later faults.Device
   stops_device later same unwritten =
-      subst (λ (w : Option (List ℕ)). Stops from to before w trace traced start later faults.Device) unwritten
-      (stops_behind from mid to before half trace earlier traced start now later line piece reads part more same
+      subst (λ (w : Option (List ℕ)). Stops shortens from to before w trace traced start later faults.Device) unwritten
+      (stops_behind shortens from mid to before half trace earlier traced start now later line piece reads part more same
       (kept_front trace traced part.serves.text all.text told_batch) faults.Device part.serves.written tt)
 
 -- ---- a fault of a release
 
 -- in the middle of a serving
-pub stops_release : (from mid to before half after : Option (List ℕ)) (trace earlier traced : TraceValue) (start now answered later : ServiceValue)
-    (line piece : List ℕ) (reads : ℕ) (part : ServesPart from mid before half trace earlier start now line reads) → Consumes mid to piece
+pub stops_release : (shortens : Bool) (from mid to before half after : Option (List ℕ)) (trace earlier traced : TraceValue) (start now answered later : ServiceValue)
+    (line piece : List ℕ) (reads : ℕ) (part : ServesPart shortens from mid before half trace earlier start now line reads) → Consumes mid to piece
     → HasAnsweredAll (whole_lines_after (last_part part.serves.read) piece) now answered → HasTold earlier traced answered.waiting
     → KeepsLog now answered → later.served ≡ answered.served → (fault : ServeFault) → HoldsBack half after answered later fault
-    → Stops from to before after trace traced start later fault
-stops_release from mid to before half after trace earlier traced start now answered later line piece reads part more all told keeps same faults.Device held =
-    stops_device from mid to before half after trace earlier traced start now answered line piece reads part more all told later
+    → Stops shortens from to before after trace traced start later fault
+stops_release shortens from mid to before half after trace earlier traced start now answered later line piece reads part more all told keeps same faults.Device held =
+    stops_device shortens from mid to before half after trace earlier traced start now answered line piece reads part more all told later
     (held.2 ∙ keeps.safe) (sym held.0)
-stops_release from mid to before half after trace earlier traced start now answered later line piece reads part more all told keeps same faults.Write held =
-    stops_batch from mid to before half after trace earlier traced start now answered line piece reads part more all told later same held.0 held.1
-stops_release from mid to before half after trace earlier traced start now answered later line piece reads part more all told keeps same faults.Read held = absurd held
-stops_release from mid to before half after trace earlier traced start now answered later line piece reads part more all told keeps same faults.TooLong held = absurd held
-stops_release from mid to before half after trace earlier traced start now answered later line piece reads part more all told keeps same faults.NoMemory held = absurd held
+stops_release shortens from mid to before half after trace earlier traced start now answered later line piece reads part more all told keeps same faults.Write held =
+    stops_batch shortens from mid to before half after trace earlier traced start now answered line piece reads part more all told later same held.0 held.1
+stops_release shortens from mid to before half after trace earlier traced start now answered later line piece reads part more all told keeps same faults.Read held = absurd held
+stops_release shortens from mid to before half after trace earlier traced start now answered later line piece reads part more all told keeps same faults.TooLong held = absurd held
+stops_release shortens from mid to before half after trace earlier traced start now answered later line piece reads part more all told keeps same faults.NoMemory held = absurd held
 
 -- before the first read
-pub stops_at_first : (from before after : Option (List ℕ)) (trace : TraceValue) (start now : ServiceValue) → now.served ≡ start.served
+pub stops_at_first : (shortens : Bool) (from before after : Option (List ℕ)) (trace : TraceValue) (start now : ServiceValue) → now.served ≡ start.served
     → (fault : ServeFault) → HoldsBack before after start now fault
-    → StopsAtOnce from from before after trace trace start now fault ⊎ Stops from from before after trace trace start now fault
-stops_at_first from before after trace start now same faults.Device held =
+    → StopsAtOnce from from before after trace trace start now fault ⊎ Stops shortens from from before after trace trace start now fault
+stops_at_first shortens from before after trace start now same faults.Device held =
     inl (record { device = refl; unread = refl; unwritten = held.0; untold = refl; safe = held.2 })
-stops_at_first from before after trace start now same faults.Write held =
-    inr (stops_first from before after trace start now same held.0 held.1)
-stops_at_first from before after trace start now same faults.Read held = absurd held
-stops_at_first from before after trace start now same faults.TooLong held = absurd held
-stops_at_first from before after trace start now same faults.NoMemory held = absurd held
+stops_at_first shortens from before after trace start now same faults.Write held =
+    inr (stops_first shortens from before after trace start now same held.0 held.1)
+stops_at_first shortens from before after trace start now same faults.Read held = absurd held
+stops_at_first shortens from before after trace start now same faults.TooLong held = absurd held
+stops_at_first shortens from before after trace start now same faults.NoMemory held = absurd held
+
+-- ---- a log that is shortened
+
+module _ (from to before after : Option (List ℕ)) (trace traced : TraceValue) (start now later : ServiceValue) (line : List ℕ) (reads : ℕ)
+    (part : ServesPart true from to before after trace traced start now line reads) where
+  -- more of it was let go, or nothing
+  pub serves_shorter : Shortens now.served later.served → later.waiting ≡ now.waiting → IsSettled later
+      → ServesPart true from to before after trace traced start later line reads
+  serves_shorter goes same settled = record {
+    serves = record {
+      read = part.serves.read;
+      consumed = part.serves.consumed;
+      text = part.serves.text;
+      answers = answers_shorter start.served now.served later.served (whole_lines part.serves.read) part.serves.text part.serves.answers goes;
+      written = part.serves.written;
+      waiting = same ∙ part.serves.waiting;
+      settled = settled;
+      told = part.serves.told;
+    };
+    kept = part.kept;
+    some = part.some;
+  }
+
+  -- it isn't known whether it was
+  pub stops_either : LeavesEither now.served later.safe → Stops true from to before after trace traced start later faults.Device
+  stops_either leaves = record {
+    front = part.serves.read;
+    back = [];
+    consumed = subst (Consumes from to) (sym (append-nil part.serves.read)) part.serves.consumed;
+    last = now.served;
+    text = part.serves.text;
+    answers = part.serves.answers;
+    out = part.serves.written;
+    safe = leaves;
+    told = kept_of trace traced part.serves.text part.serves.told;
+    long = tt;
+  }
 
 -- ---- what is counted
 

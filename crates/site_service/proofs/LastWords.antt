@@ -16,7 +16,7 @@ use Rattle.entry_text.specs.Spelling.{command_text}
 use Rattle.entry_text.specs.Ranges.{SiteFits, IdFits, CommandFits}
 use Rattle.kept_records.proofs.Bytes.{has_it}
 use Rattle.caller_keys.specs.Keys.{is_key_byte, IsKey}
-use Rattle.site_service.specs.Answers.{AsksCommit}
+use Rattle.site_service.specs.Answers.{commit_text}
 use Rattle.site_service.specs.Asking.{HasNoSpace, IsCutAtKey}
 use Rattle.site_service.proofs.Ends.{none_from}
 
@@ -55,6 +55,13 @@ one_last (a ∷ as1) (b ∷ bs) x y p q e =
     let r = one_last as1 bs x y p q tails in
     record { front = ap (λ (z : ℕ). z ∷ as1) heads ∙ ap (λ (l : List ℕ). b ∷ l) r.front; rest = r.rest }
 
+-- a line of one word has no last space
+pub no_last : (line a x : List ℕ) → HasNoSpace line → line ≡ a ++ 32 ∷ x → ⊥
+no_last line a x none is =
+    let has = has_it 32 a x in
+    let no : list_any (λ (c : ℕ). eqb c 32) (a ++ 32 ∷ x) ≡ false = subst HasNoSpace is none in
+    cc
+
 -- ---- the word `key`
 
 key_word : (front word : List ℕ) → front ++ (codes " key " ++ word) ≡ (front ++ codes " key") ++ 32 ∷ word
@@ -74,11 +81,7 @@ cut_none line front word parts one none before other cut =
     none before same.front
 
 pub cut_nowhere : (line : List ℕ) → HasNoSpace line → (before other : List ℕ) → IsCutAtKey line before other → ⊥
-cut_nowhere line none before other cut =
-    let has = has_it 32 (before ++ codes " key") other in
-    let no : list_any (λ (c : ℕ). eqb c 32) ((before ++ codes " key") ++ 32 ∷ other) ≡ false =
-    subst HasNoSpace (cut.parts ∙ key_word before other) none in
-    cc
+cut_nowhere line none before other cut = no_last line (before ++ codes " key") other none (cut.parts ∙ key_word before other)
 
 -- one cut of a line
 pub cut_once : (line a b x y : List ℕ) → IsCutAtKey line a x → IsCutAtKey line b y → OneCut a b x y
@@ -98,34 +101,32 @@ key_one_word key is =
     list_any_none (λ (b : ℕ). eqb b 32) key (λ k d lt. ne_eqb _ 32 (key_byte _ (is.letters k d lt)))
 
 -- a commit with a key is cut at its key
-pub commit_cut : (schema : SchemaValue) (site : SiteNo) (line : List ℕ) (txn : TxnId) (key : List ℕ) → AsksCommit schema site line txn key
-    → IsCutAtKey line (command_text schema site (Commit txn)) key
-commit_cut schema site line txn key asks = record { parts = asks.text; one_word = key_one_word key asks.is_key }
+pub commit_cut : (schema : SchemaValue) (site : SiteNo) (order : List ℕ) (txn : TxnId) (key : List ℕ) → IsKey key
+    → order ≡ commit_text schema site txn key → IsCutAtKey order (command_text schema site (Commit txn)) key
+commit_cut schema site order txn key is_key is = record { parts = is; one_word = key_one_word key is_key }
 
 -- ---- what is read
 
-module _ (schema : SchemaValue) (line front word : List ℕ) (cut : IsCutAtKey line front word) where
-  front_cut : (site : SiteNo) (txn : TxnId) (key : List ℕ) → AsksCommit schema site line txn key
+module _ (schema : SchemaValue) (order front word : List ℕ) (cut : IsCutAtKey order front word) where
+  front_cut : (site : SiteNo) (txn : TxnId) (key : List ℕ) → IsKey key → order ≡ commit_text schema site txn key
       → OneCut front (command_text schema site (Commit txn)) word key
-  front_cut site txn key asks = cut_once line front (command_text schema site (Commit txn)) word key cut (commit_cut schema site line txn key asks)
+  front_cut site txn key is_key is =
+      cut_once order front (command_text schema site (Commit txn)) word key cut (commit_cut schema site order txn key is_key is)
 
   -- the last word is no key
-  pub no_key : (IsKey word → ⊥) → (site : SiteNo) (txn : TxnId) (key : List ℕ) → AsksCommit schema site line txn key → ⊥
-  no_key none site txn key asks = none (subst IsKey (sym (front_cut site txn key asks).rest) asks.is_key)
+  pub no_key : (IsKey word → ⊥) → (site : SiteNo) (txn : TxnId) (key : List ℕ) → IsKey key → order ≡ commit_text schema site txn key → ⊥
+  no_key none site txn key is_key is = none (subst IsKey (sym (front_cut site txn key is_key is).rest) is_key)
 
   -- the front is the text of the commit
-  pub front_is : (site : SiteNo) (txn : TxnId) (key : List ℕ) → AsksCommit schema site line txn key
+  pub front_is : (site : SiteNo) (txn : TxnId) (key : List ℕ) → IsKey key → order ≡ commit_text schema site txn key
       → front ≡ command_text schema site (Commit txn)
-  front_is site txn key asks = (front_cut site txn key asks).front
+  front_is site txn key is_key is = (front_cut site txn key is_key is).front
 
-  pub asks_commit : (site : SiteNo) (txn : TxnId) (key : List ℕ) → key ≡ word → IsKey key
-      → IdFits txn × (front ≡ command_text schema site (Commit txn)) → AsksCommit schema site line txn key
-  asks_commit site txn key same is_key read = record {
-    fits = read.0;
-    is_key = is_key;
-    text = cut.parts ∙ ap (λ (l : List ℕ). l ++ (codes " key " ++ word)) read.1
-        ∙ ap (λ (l : List ℕ). command_text schema site (Commit txn) ++ (codes " key " ++ l)) (sym same);
-  }
+  pub spells_order : (site : SiteNo) (txn : TxnId) (key : List ℕ) → key ≡ word → front ≡ command_text schema site (Commit txn)
+      → order ≡ commit_text schema site txn key
+  spells_order site txn key same read =
+      cut.parts ∙ ap (λ (l : List ℕ). l ++ (codes " key " ++ word)) read
+      ∙ ap (λ (l : List ℕ). command_text schema site (Commit txn) ++ (codes " key " ++ l)) (sym same)
 
 -- no command was read
 pub read_none : (schema : SchemaValue) (text : List ℕ) (read : Option (SiteNo × Command)) → read ≡ None

@@ -18,8 +18,10 @@ pub mod Shortens
 pub mod Starts
 pub mod Questions
 pub mod LastWords
+pub mod Since
 pub mod Told
 pub mod Lines
+pub mod LessHeld
 pub mod Batches
 pub mod Tracing
 pub mod WordFaults

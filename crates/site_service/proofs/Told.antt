@@ -1,6 +1,5 @@
 -- What a line or a command adds to the output.
-use Rattle.std.proofs.Common.{◌≡◌, ◌<◌, ◌⊎◌, ℕ, ◌+◌, ◌-◌, Bool, take, codes, List, [], ◌∷◌, ◌++◌, length, Option, Some, None, Result, Ok, Err, OnErr, refl, sym, ap, ◌∙◌, subst, inl, inr, arith}
-use Rattle.std.proofs.lemmas.List.{length-append, take_at}
+use Rattle.std.proofs.Common.{◌≡◌, ◌≢◌, ◌<◌, ◌⊎◌, ℕ, Bool, List, [], ◌∷◌, ◌++◌, length, Option, Some, None, Result, Ok, Err, OnErr, refl, sym, ap, ◌∙◌, subst, inl, inr, arith}
 use Rattle.field_bounds.specs.Schema.{SchemaValue}
 use Rattle.field_bounds.specs.declared.id.SiteNo.{SiteNo}
 use Rattle.field_bounds.specs.declared.entry.Command.{Command}
@@ -12,15 +11,17 @@ use Rattle.kept_records.specs.declared.record.Record.{Record}
 use Rattle.site_step.specs.Site.{SiteValue, Applies}
 use Rattle.site_step.specs.Shortening.{held_of}
 use Rattle.log_head.specs.declared.gone.Gone.{Gone}
-use Rattle.site_service.specs.declared.key_answer.KeyAnswer.TheVariants.{Kept}
+use Rattle.site_service.specs.declared.key_answer.KeyAnswer.{KeyAnswer}
+use Rattle.site_service.specs.declared.key_answer.KeyAnswer.TheVariants.{No}
 use Rattle.site_service.specs.LetGo.{let_go_of, commit_answer, key_answer}
 use Rattle.site_service.specs.declared.bad_line.BadLine.{BadLine}
 use Rattle.site_service.specs.declared.bad_line.BadLine.TheVariants.{TooLong, OtherSite, UnknownWord, NoField, NoCommand}
 use Rattle.field_bounds.specs.declared.id.TxnId.{TxnId}
 use Rattle.entry_text.specs.Ranges.{IdFits}
-use Rattle.caller_keys.specs.Keys.{IsKey}
 use Rattle.site_service.specs.Kept.{LastNotes, TellsCommit, TellsKey, kept_text, kept_words, kept_key_text, kept_key_words}
 use Rattle.site_service.specs.Answers.{Served, served_of, whole_of, IsStill, Asks, AsksCommit, Answered, CarriedOut, LeavesCommand, NotesCommit, CommitsWith, CommittedWithKey, IsBad, bad_text, Passed, LeavesAnswer}
+use Rattle.site_service.specs.declared.asking.KeyedCommit.{KeyedCommit}
+use Rattle.site_service.specs.Asking.{AsksKey, SpellsCommit}
 use Rattle.site_service.specs.Service.{Tells, TellsEntry}
 use Rattle.site_service.proofs.Held.{applies_whole, answered_whole}
 
@@ -28,6 +29,16 @@ use Rattle.site_service.proofs.Held.{applies_whole, answered_whole}
 pub any_err : {T E : Type 0} (r : Result T E) (P : Type 0) → P → OnErr r P
 any_err (Ok x) P p = tt
 any_err (Err e) P p = p
+
+-- a commit with a key with another name for the number
+pub spells : (schema : SchemaValue) (number site : SiteNo) (line : List ℕ) (commit : KeyedCommit) → number ≡ site
+    → SpellsCommit schema number line commit → SpellsCommit schema site line commit
+spells schema number site line commit is = subst (λ (n : SiteNo). SpellsCommit schema n line commit) is
+
+-- no is answered where no commit is kept
+none_kept : (told : Option Gone) (since kept : Option TxnId) → key_answer told since kept ≡ No → kept ≡ None
+none_kept told since None is = refl
+none_kept told since (Some txn) is = absurd cc
 
 -- an entry's text with another name for the schema and the number
 module _ (schema : SchemaValue) (number : SiteNo) (old new : SiteValue) (own : schema ≡ old.schema) (is : number ≡ old.site) (command : Command)
@@ -171,52 +182,65 @@ module _ (schema : SchemaValue) (number : SiteNo) (old : SiteValue) (own : schem
   }
 
   -- a question for a key
-  pub told_key : (out grown line key : List ℕ) → IsKey key × (line ≡ kept_key_text key)
+  pub told_key : (out grown line key : List ℕ) (since : Option TxnId) → AsksKey line key since
       → (kept : Option TxnId) × TellsKey (held_of old) last key kept
-      × (grown ≡ out ++ (kept_key_text key ++ kept_key_words (key_answer front kept))) → Tells line was now out grown
-  told_key out grown line key asks told = record {
-    text = kept_key_text key ++ kept_key_words (key_answer front told.0);
+      × (grown ≡ out ++ (line ++ kept_key_words (key_answer front since kept))) → Tells line was now out grown
+  told_key out grown line key since asks told = record {
+    text = line ++ kept_key_words (key_answer front since told.0);
     answer = inr (inr (inr (inr (inl (record {
       key = key;
-      is_key = asks.0;
-      asked = asks.1;
+      since = since;
+      is_key = asks.is_key;
+      since_fits = asks.since_fits;
+      asked = asks.text;
       kept = told.0;
       tells = told.1;
       still = still;
-      told = ap (λ (l : List ℕ). l ++ kept_key_words (key_answer front told.0)) (sym asks.1);
+      told = refl;
     })))));
     added = told.2;
   }
 
   -- a commit with a key
-  module _ (line : List ℕ) (txn : TxnId) (key : List ℕ) (asks : AsksCommit schema number line txn key) where
-    commit_here : AsksCommit old.schema old.site line txn key
-    commit_here = subst (λ (n : SiteNo). AsksCommit old.schema n line txn key) is (subst (λ (s : SchemaValue). AsksCommit s number line txn key) own asks)
+  module _ (line : List ℕ) (txn : TxnId) (key : List ℕ) (since : Option TxnId) (asks : AsksCommit schema number line txn key since)
+      (kept : Option TxnId) (tells : TellsKey (held_of old) last key kept) (answer : KeyAnswer) (answers : answer ≡ key_answer front since kept)
+      where
+    commit_here : AsksCommit old.schema old.site line txn key since
+    commit_here =
+        subst (λ (n : SiteNo). AsksCommit old.schema n line txn key since) is
+        (subst (λ (s : SchemaValue). AsksCommit s number line txn key since) own asks)
 
-    pub told_refused : (out grown : List ℕ) (kept : TxnId) → TellsKey (held_of old) last key (Some kept)
-        → grown ≡ out ++ (kept_key_text key ++ kept_key_words (Kept kept)) → Tells line was now out grown
-    told_refused out grown kept tells added = record {
-      text = kept_key_text key ++ kept_key_words (Kept kept);
+    pub told_refused : (out grown : List ℕ) → answer ≢ No → grown ≡ out ++ (kept_key_text key ++ kept_key_words answer)
+        → Tells line was now out grown
+    told_refused out grown refuses added = record {
+      text = kept_key_text key ++ kept_key_words answer;
       answer = inr (inr (inl (record {
         txn = txn;
         key = key;
+        since = since;
         asks = commit_here;
-        other = kept;
+        kept = kept;
         tells = tells;
+        refuses = subst (λ (a : KeyAnswer). a ≢ No) answers refuses;
         still = still;
-        told = refl;
+        told = ap (λ (a : KeyAnswer). kept_key_text key ++ kept_key_words a) answers;
       })));
       added = added;
     }
 
-    module _ (tells : TellsKey (held_of old) last key None) (new : SiteValue) (later : LastNotes) where
+    module _ (is_no : answer ≡ No) (new : SiteValue) (later : LastNotes) where
+      none : kept ≡ None
+      none = none_kept front since kept (sym answers ∙ is_no)
+
       committed : (text : List ℕ) → CommitsWith old last txn key new later text
           → CommittedWithKey was line (served_of new later front count) text
       committed text commits = record {
         txn = txn;
         key = key;
+        since = since;
         asks = commit_here;
-        tells = tells;
+        tells = subst (TellsKey (held_of old) last key) none tells;
+        answer = ap (key_answer front since) (sym none) ∙ sym answers ∙ is_no;
         commits = commits_whole old new last later txn key text commits;
         let_go = same_gone new commits.answered.applies.same.gone;
       }
@@ -229,14 +253,3 @@ module _ (schema : SchemaValue) (number : SiteNo) (old : SiteValue) (own : schem
           → LeavesAnswer was line (served_of new later front count)
       left_committed (inl same) = inl (still_by new later same.0 same.1)
       left_committed (inr did) = inr (did.0, inr (inl (committed did.0 did.1)))
-
--- ---- what stands in front of a key
-
-module _ (line front key : List ℕ) (is : line ≡ front ++ (codes " key " ++ key)) where
-  pub key_length : length line ≡ length front + (5 + length key)
-  key_length = ap length is ∙ length-append front (codes " key " ++ key) ∙ ap (λ (n : ℕ). length front + n) (length-append (codes " key ") key)
-
-  pub in_front : (n : ℕ) → n ≡ length line - length key - 5 → take n line ≡ front
-  in_front n size =
-      let at : n ≡ length front = omega (arith, size, key_length) in
-      ap (take n) is ∙ take_at front (codes " key " ++ key) n (sym at)

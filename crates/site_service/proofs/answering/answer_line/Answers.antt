@@ -1,14 +1,12 @@
 use Rattle.std.proofs.Common.{◌≡◌, List, ℕ, refl, sym, subst, ◌∙◌, arith}
 use Rattle.std.proofs.lemmas.Result.{on_ok_weaker, on_err_weaker}
-use Rattle.field_bounds.specs.declared.id.SiteNo.{SiteNo}
 use Rattle.kept_records.specs.Keeping.{IsKept}
 use Rattle.site_service.specs.Kept.{TellsCommit, TellsKey}
 use Rattle.site_service.specs.Index.{IsIndexOf}
-use Rattle.site_service.specs.Answers.{AsksCommit}
 use Rattle.site_service.proofs.Index.{index_grows}
 use Rattle.site_step.specs.Shortening.{held_of}
 use Rattle.site_service.proofs.Held.{held_medium, held_kept, held_goes, goes_same}
-use Rattle.site_service.proofs.Told.{told_command, left_command, left_still, told_commit, told_key, told_bad, told_long, any_err}
+use Rattle.site_service.proofs.Told.{told_command, left_command, left_still, told_commit, told_key, told_bad, told_long, any_err, spells}
 use Rattle.site_service.proofs.answering.answer_line.Goals as goal
 
 -- ---- a command
@@ -44,11 +42,23 @@ returns-in-Ok-Do-clause-index c =
 pub answer_commit-requires : goal.answer_commit-requires
 answer_commit-requires c = record {
   schema = c.requires.schema;
-  asks = subst (λ (n : SiteNo). AsksCommit c.args.schema.now n c.args.line.now c.in-Ok-Commit.txn c.in-Ok-Commit.key.bytes.now) c.site.ensures.value
-      (rw c.in-Ok-Commit.field-0-is at c.in-Ok-Commit.ensures.ok);
+  spelled = (spells c.args.schema.now c.site.result c.args.site.now.site c.args.line.now c.in-Ok-Commit.commit c.site.ensures.value
+      (rw c.in-Ok-Commit.field-0-is at c.in-Ok-Commit.ensures.ok)).spelled;
   stands = c.requires.stands;
   index = c.requires.index;
 }
+
+pub returns-in-Ok-Commit-clause-ok : goal.returns-in-Ok-Commit-clause-ok
+returns-in-Ok-Commit-clause-ok c = λ count.
+    c.answer_commit.ensures.ok c.args.line.now count c.args.number
+    (spells c.args.schema.now c.site.result c.args.site.now.site c.args.line.now c.in-Ok-Commit.commit c.site.ensures.value
+    (rw c.in-Ok-Commit.field-0-is at c.in-Ok-Commit.ensures.ok)).asks
+
+pub returns-in-Ok-Commit-clause-left : goal.returns-in-Ok-Commit-clause-left
+returns-in-Ok-Commit-clause-left c = λ count.
+    c.answer_commit.ensures.left c.args.line.now count c.args.number
+    (spells c.args.schema.now c.site.result c.args.site.now.site c.args.line.now c.in-Ok-Commit.commit c.site.ensures.value
+    (rw c.in-Ok-Commit.field-0-is at c.in-Ok-Commit.ensures.ok)).asks
 
 pub returns-in-Ok-Commit-clause-long : goal.returns-in-Ok-Commit-clause-long
 returns-in-Ok-Commit-clause-long c = λ count whole long more. absurd (omega (arith, long, c.in-Ok-Commit.ensures.short))
@@ -90,7 +100,7 @@ returns-in-Ok-Kept-clause-index c =
 
 pub tell_key-requires : goal.tell_key-requires
 tell_key-requires c =
-    let is : c.bytes-in-Ok-KeptKey.result.now ≡ held_of c.args.site.now = c.bytes-in-Ok-KeptKey.ensures.bytes ∙ held_medium c.args.site.now c.medium-in-Ok-KeptKey.ensures.bytes in
+    let is : c.bytes-log.result.now ≡ held_of c.args.site.now = c.bytes-log.ensures.bytes ∙ held_medium c.args.site.now c.medium-in-Ok-KeptKey.ensures.bytes in
     record {
       index = subst (IsIndexOf c.args.kept.now) (sym is) c.requires.index;
       log = subst IsKept (sym is) (held_kept c.args.site.now c.requires.stands);
@@ -99,10 +109,10 @@ tell_key-requires c =
 pub returns-in-Ok-KeptKey-clause-ok : goal.returns-in-Ok-KeptKey-clause-ok
 returns-in-Ok-KeptKey-clause-ok c = λ count.
     let asks = rw c.in-Ok-KeptKey.field-0-is at c.in-Ok-KeptKey.ensures.ok in
-    let is : c.bytes-in-Ok-KeptKey.result.now ≡ held_of c.args.site.now = c.bytes-in-Ok-KeptKey.ensures.bytes ∙ held_medium c.args.site.now c.medium-in-Ok-KeptKey.ensures.bytes in
+    let is : c.bytes-log.result.now ≡ held_of c.args.site.now = c.bytes-log.ensures.bytes ∙ held_medium c.args.site.now c.medium-in-Ok-KeptKey.ensures.bytes in
     on_ok_weaker c.tell_key.result
     (λ told. told_key c.args.schema.now c.site.result c.args.site.now c.requires.schema c.site.ensures.value c.args.keys.now.last c.args.told.now count c.args.number c.args.out.now.items
-    c.tell_key.new.out.items c.args.line.now c.in-Ok-KeptKey.key.bytes.now asks
+    c.tell_key.new.out.items c.args.line.now c.in-Ok-KeptKey.key.bytes.now c.in-Ok-KeptKey.since asks
     (told.0, subst (λ (b : List ℕ). TellsKey b c.args.keys.now.last c.in-Ok-KeptKey.key.bytes.now told.0) is told.1, told.2)) c.tell_key.ensures.ok
 
 pub returns-in-Ok-KeptKey-clause-left : goal.returns-in-Ok-KeptKey-clause-left
@@ -116,7 +126,7 @@ returns-in-Ok-KeptKey-clause-grows c = goes_same c.args.site.now c.args.site.now
 
 pub returns-in-Ok-KeptKey-clause-index : goal.returns-in-Ok-KeptKey-clause-index
 returns-in-Ok-KeptKey-clause-index c =
-    let is : c.bytes-in-Ok-KeptKey.result.now ≡ held_of c.args.site.now = c.bytes-in-Ok-KeptKey.ensures.bytes ∙ held_medium c.args.site.now c.medium-in-Ok-KeptKey.ensures.bytes in
+    let is : c.bytes-log.result.now ≡ held_of c.args.site.now = c.bytes-log.ensures.bytes ∙ held_medium c.args.site.now c.medium-in-Ok-KeptKey.ensures.bytes in
     subst (IsIndexOf c.tell_key.new.kept) is c.tell_key.ensures.index
 
 -- ---- a line that asks nothing

@@ -9,8 +9,8 @@ use Rattle.site_service.proofs.answering.commit_spelled.Goals as goal
 
 pub add_spelled-requires : goal.add_spelled-requires
 add_spelled-requires c = record {
-  spelled = c.without_key-spelled.ensures.front (command_text c.args.schema.now c.args.site.now.site (Commit c.args.txn)) c.requires.asks.text
-      ∙ ap (λ (n : SiteNo). command_text c.args.schema.now n (Commit c.args.txn)) (sym c.site-number.ensures.value);
+  spelled = c.requires.spelled
+      ∙ ap (λ (n : SiteNo). command_text c.args.schema.now n (Commit c.args.commit.txn)) (sym c.site-number.ensures.value);
 }
 
 pub returns-in_err-reply-clause-left : goal.returns-in_err-reply-clause-left
@@ -25,7 +25,7 @@ returns-clause-ok c =
     (λ added. (
       _,
       commits_with c.args.schema.now c.site-number.result c.args.site.now c.commit_and_note.new.site c.requires.schema c.site-number.ensures.value
-          c.args.txn c.in_ok-reply.reply c.in_ok-reply.ensures.ok c.args.keys.now.last c.commit_and_note.new.keys.last c.args.key.bytes.now
+          c.args.commit.txn c.in_ok-reply.reply c.in_ok-reply.ensures.ok c.args.keys.now.last c.commit_and_note.new.keys.last c.args.commit.key.bytes.now
           c.in_ok-reply.ensures.noted,
       added,
     )) c.add_spelled.ensures.ok
@@ -36,10 +36,10 @@ returns-clause-left c =
     (inr (
       _,
       commits_with c.args.schema.now c.site-number.result c.args.site.now c.commit_and_note.new.site c.requires.schema c.site-number.ensures.value
-          c.args.txn c.in_ok-reply.reply c.in_ok-reply.ensures.ok c.args.keys.now.last c.commit_and_note.new.keys.last c.args.key.bytes.now
+          c.args.commit.txn c.in_ok-reply.reply c.in_ok-reply.ensures.ok c.args.keys.now.last c.commit_and_note.new.keys.last c.args.commit.key.bytes.now
           c.in_ok-reply.ensures.noted,
     ))
 
 pub returns-clause-grows : goal.returns-clause-grows
 returns-clause-grows c = λ stands.
-    goes_by c.args.site.now c.commit_and_note.new.site (Commit c.args.txn) c.in_ok-reply.reply c.in_ok-reply.ensures.ok stands
+    goes_by c.args.site.now c.commit_and_note.new.site (Commit c.args.commit.txn) c.in_ok-reply.reply c.in_ok-reply.ensures.ok stands

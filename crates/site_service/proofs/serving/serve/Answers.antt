@@ -1,4 +1,4 @@
-use Rattle.std.proofs.Common.{refl, inr, ◌∙◌}
+use Rattle.std.proofs.Common.{false, refl, inr, ◌∙◌}
 use Rattle.std.proofs.lemmas.Result.{IfErr-weaker}
 use Rattle.site_service.specs.Traces.{trace_of}
 use Rattle.site_service.proofs.Batches.{serves_none, stops_at_first, held_reads, held_not_read, writes_from}
@@ -8,7 +8,7 @@ pub returns-in-Err : goal.returns-in-Err
 returns-in-Err g c = record {
   ok = tt;
   end = tt;
-  err = stops_at_first (g.R.Source.bytes c.args.reader.now) _ _
+  err = stops_at_first false (g.R.Source.bytes c.args.reader.now) _ _
       (trace_of (g.T.LogFile.bytes c.args.trace.now) (g.T.LogFile.safe c.args.trace.now)) c.args.service.now c.release.new.self
       c.in-Err.ensures.served _ c.in-Err.ensures.err;
   least = c.in-Err.ensures.least;
@@ -26,7 +26,7 @@ returns-in-Ok g c =
     let from = g.R.Source.bytes c.args.reader.now in
     let before = g.W.Sink.bytes c.args.writer.now in
     let trace = trace_of (g.T.LogFile.bytes c.args.trace.now) (g.T.LogFile.safe c.args.trace.now) in
-    let part = serves_none from before _ trace c.args.service.now c.release.new.self c.in-Ok.ensures.served c.in-Ok.ensures.ok in
+    let part = serves_none false from before _ trace c.args.service.now c.release.new.self c.in-Ok.ensures.served c.in-Ok.ensures.ok in
     record {
       ok = c.serve_batches.ensures.ok from before trace c.args.service.now part;
       end = c.serve_batches.ensures.end;

@@ -1,4 +1,4 @@
-use Rattle.std.proofs.Common.{◌+◌, [], refl, ap, subst, ◌∙◌, arith, rules}
+use Rattle.std.proofs.Common.{◌+◌, false, [], refl, ap, subst, ◌∙◌, arith, rules}
 use Rattle.std.proofs.lemmas.Result.{err_from_is_err_and}
 use Rattle.std.proofs.KnownBytes.{Consumes-nil}
 use Rattle.site_service.specs.Serving.{ServesOn, reads_failed, writes_refused}
@@ -14,7 +14,7 @@ returns-in_err-buffer g c =
     rw (p.1, p.2) (record {
       ok = λ from before was start part. tt;
       err = λ from before was start part.
-          stops_behind from mid mid before _ was _ _ start c.args.service.now c.args.service.now [] [] 0 part (Consumes-nil mid) refl
+          stops_behind false from mid mid before _ was _ _ start c.args.service.now c.args.service.now [] [] 0 part (Consumes-nil mid) refl
           (kept_of was _ part.serves.text part.serves.told) faults.NoMemory part.serves.written tt;
       least = refl;
       uncut = refl;
@@ -31,7 +31,7 @@ returns-in_err-take_batch g c =
     let p = err_from_is_err_and c.from_residual-in_err-take_batch.result c.from_residual-in_err-take_batch.ensures.1 in
     rw (p.1, p.2) (record {
       ok = λ from before was start part. tt;
-      err = λ from before was start part. c.in_err-take_batch.ensures.err from before was start _ (inv.serves from before was start part);
+      err = λ from before was start part. c.in_err-take_batch.ensures.err false from before was start _ (inv.serves from before was start part);
       least = c.in_err-take_batch.ensures.least ∙ inv.least;
       uncut = c.in_err-take_batch.ensures.uncut ∙ inv.uncut;
       end = tt;
@@ -45,8 +45,8 @@ pub returns-then-not-branch : goal.returns-then-not-branch
 returns-then-not-branch g c =
     let inv = c.batches.invariant in record {
       ok = λ from before was start part.
-          subst (ServesOn from _ before _ was _ start c.take_batch.new.service c.take_batch.new.line.items (c.batches._reads + 1)) c.if-not-branch.true
-          (c.in_ok-take_batch.ensures.ok from before was start _ (inv.serves from before was start part));
+          subst (ServesOn false from _ before _ was _ start c.take_batch.new.service c.take_batch.new.line.items (c.batches._reads + 1)) c.if-not-branch.true
+          (c.in_ok-take_batch.ensures.ok false from before was start _ (inv.serves from before was start part));
       err = λ from before was start part. tt;
       least = c.in_ok-take_batch.ensures.least ∙ inv.least;
       uncut = c.in_ok-take_batch.ensures.uncut ∙ inv.uncut;
@@ -61,8 +61,8 @@ pub batches-preserved : goal.batches-preserved
 batches-preserved g c =
     let inv = c.batches.invariant in record {
       serves = λ from before was start part.
-          subst (ServesOn from _ before _ was _ start c.take_batch.new.service c.take_batch.new.line.items (c.batches._reads + 1)) c.if-not-branch.false
-          (c.in_ok-take_batch.ensures.ok from before was start _ (inv.serves from before was start part));
+          subst (ServesOn false from _ before _ was _ start c.take_batch.new.service c.take_batch.new.line.items (c.batches._reads + 1)) c.if-not-branch.false
+          (c.in_ok-take_batch.ensures.ok false from before was start _ (inv.serves from before was start part));
       some = search rules;
       least = c.in_ok-take_batch.ensures.least ∙ inv.least;
       uncut = c.in_ok-take_batch.ensures.uncut ∙ inv.uncut;
@@ -73,6 +73,6 @@ batches-preserved g c =
 pub returns-clause-err : goal.returns-clause-err
 returns-clause-err g c = λ from before was start part.
     let here = c.batches.invariant.serves from before was start part in
-    stops_behind from _ _ before _ was _ _ start c.batches.service c.batches.service c.batches.line.items [] _ here (Consumes-nil _) refl
+    stops_behind false from _ _ before _ was _ _ start c.batches.service c.batches.service c.batches.line.items [] _ here (Consumes-nil _) refl
     (kept_of was _ here.serves.text here.serves.told) faults.TooLong here.serves.written
     (omega (arith, here.some, c.batches-test.false))

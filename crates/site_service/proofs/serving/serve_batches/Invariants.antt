@@ -1,5 +1,5 @@
 -- Each turn serves a batch.
-use Rattle.std.proofs.Common.{◌≡◌, ◌<◌, [], ℕ, List, Option, vec_len}
+use Rattle.std.proofs.Common.{◌≡◌, ◌<◌, false, [], ℕ, List, Option, vec_len}
 use Rattle.site_service.specs.Service.{ServiceValue}
 use Rattle.site_service.specs.Traces.{TraceValue, trace_of}
 use Rattle.site_service.specs.Serving.{ServesPart}
@@ -8,9 +8,9 @@ use Rattle.site_service.proofs.serving.serve_batches.Given as goal
 abbrev pub invariant-batches : goal.invariant-batches
 invariant-batches g l = record {
   serves : (from before : Option (List ℕ)) (was : TraceValue) (start : ServiceValue)
-      → ServesPart from (g.R.Source.bytes l.initial.reader) before (g.W.Sink.bytes l.initial.writer)
+      → ServesPart false from (g.R.Source.bytes l.initial.reader) before (g.W.Sink.bytes l.initial.writer)
       was (trace_of (g.T.LogFile.bytes l.initial.trace) (g.T.LogFile.safe l.initial.trace)) start l.initial.service [] 0
-      → ServesPart from (g.R.Source.bytes l.reader) before (g.W.Sink.bytes l.writer)
+      → ServesPart false from (g.R.Source.bytes l.reader) before (g.W.Sink.bytes l.writer)
       was (trace_of (g.T.LogFile.bytes l.trace) (g.T.LogFile.safe l.trace)) start l.service l.line.items l._reads;
   some : 0 < vec_len l.buffer;
   least : l.service.least ≡ l.initial.service.least;

@@ -13,9 +13,10 @@ pub returns-in_err-count : goal.returns-in_err-count
 returns-in_err-count g c =
     let p = err_from_is_err_and c.from_residual.result c.from_residual.ensures.1 in
     rw (p.1, p.2, c.in_err-count.ensures.fault) (record {
-      ok = λ from before was start reads part. tt;
-      err = λ from before was start reads part.
-          stops_kept from _ _ before _ was _ start c.args.service.now c.args.line.now.items reads part c.in_err-count.ensures.bytes;
+      ok = λ shortens from before was start reads part. tt;
+      err = λ shortens from before was start reads part.
+          stops_kept shortens from _ _ before _ was _ start c.args.service.now c.args.line.now.items reads part c.in_err-count.ensures.bytes;
+      settled = tt;
       least = refl;
       uncut = refl;
       end = tt;
@@ -27,12 +28,12 @@ returns-in_err-count g c =
     })
 
 pub returns-then-count-eq0-clause-ok : goal.returns-then-count-eq0-clause-ok
-returns-then-count-eq0-clause-ok g c = λ from before was start reads part.
+returns-then-count-eq0-clause-ok g c = λ shortens from before was start reads part.
     let mid = g.R.Source.bytes c.args.reader.now in
     let to = g.R.Source.bytes c.read_piece.new.reader in
     let none : Consumes mid to [] = subst (λ n. Consumes mid to (take n c.read_piece.new.buffer)) c.if-count-eq0.true c.in_ok-count.ensures.bytes.0 in
     let room : 0 < length c.read_piece.new.buffer = omega (arith, c.requires.room, c.read_piece.auto.buffer) in (
-      serves_all from mid to before _ was _ start c.args.service.now c.args.line.now.items reads part none,
+      serves_all shortens from mid to before _ was _ start c.args.service.now c.args.line.now.items reads part none,
       c.in_ok-count.ensures.bytes.1 c.if-count-eq0.true room,
     )
 
@@ -49,11 +50,12 @@ returns-in_err-answer_piece g c =
     let more : Consumes mid to c.front.result.now = subst (Consumes mid to) (sym c.front.ensures.bytes) c.in_ok-count.ensures.bytes.0 in
     let p = err_from_is_err_and c.from_residual-in_err-answer_piece.result c.from_residual-in_err-answer_piece.ensures.1 in
     rw (p.1, p.2) (record {
-      ok = λ from before was start reads part. tt;
-      err = λ from before was start reads part.
-          stops_behind from mid to before _ was trace trace start c.args.service.now c.answer_piece.new.service c.args.line.now.items
+      ok = λ shortens from before was start reads part. tt;
+      err = λ shortens from before was start reads part.
+          stops_behind shortens from mid to before _ was trace trace start c.args.service.now c.answer_piece.new.service c.args.line.now.items
           c.front.result.now reads part more c.in_err-answer_piece.ensures.log.safe (kept_of was trace part.serves.text part.serves.told)
           faults.NoMemory part.serves.written tt;
+      settled = tt;
       least = c.in_err-answer_piece.ensures.log.least;
       uncut = refl;
       end = tt;
@@ -72,11 +74,12 @@ returns-in_err-write_trace g c =
     let more : Consumes mid to c.front.result.now = subst (Consumes mid to) (sym c.front.ensures.bytes) c.in_ok-count.ensures.bytes.0 in
     let p = err_from_is_err_and c.from_residual-in_err-write_trace.result c.from_residual-in_err-write_trace.ensures.1 in
     rw (p.1, p.2) (record {
-      ok = λ from before was start reads part. tt;
-      err = λ from before was start reads part.
-          stops_behind from mid to before _ was trace traced start c.args.service.now c.answer_piece.new.service c.args.line.now.items
+      ok = λ shortens from before was start reads part. tt;
+      err = λ shortens from before was start reads part.
+          stops_behind shortens from mid to before _ was trace traced start c.args.service.now c.answer_piece.new.service c.args.line.now.items
           c.front.result.now reads part more c.in_ok-answer_piece.ensures.log.safe
           (kept_still was trace traced part.serves.text part.serves.told c.in_err-write_trace.ensures.err) faults.Device part.serves.written tt;
+      settled = tt;
       least = c.in_ok-answer_piece.ensures.log.least;
       uncut = c.in_err-write_trace.ensures.uncut;
       end = tt;
@@ -93,12 +96,13 @@ returns-in_err-release g c =
     let more : Consumes mid to c.front.result.now = subst (Consumes mid to) (sym c.front.ensures.bytes) c.in_ok-count.ensures.bytes.0 in
     let p = err_from_is_err_and c.from_residual-in_err-release.result c.from_residual-in_err-release.ensures.1 in
     rw (p.1, p.2) (record {
-      ok = λ from before was start reads part. tt;
-      err = λ from before was start reads part.
+      ok = λ shortens from before was start reads part. tt;
+      err = λ shortens from before was start reads part.
           let both = c.in_ok-answer_piece.ensures.ok (last_part part.serves.read) part.kept in
-          stops_release from mid to before _ _ was _ _ start c.args.service.now c.answer_piece.new.service c.release.new.self
+          stops_release shortens from mid to before _ _ was _ _ start c.args.service.now c.answer_piece.new.service c.release.new.self
           c.args.line.now.items c.front.result.now reads part more both.1 c.in_ok-write_trace.ensures.ok c.in_ok-answer_piece.ensures.log
           c.in_err-release.ensures.served _ c.in_err-release.ensures.err;
+      settled = tt;
       least = c.in_err-release.ensures.least ∙ c.in_ok-answer_piece.ensures.log.least;
       uncut = c.in_ok-write_trace.ensures.uncut;
       end = tt;
@@ -111,13 +115,16 @@ returns-in_err-release g c =
     })
 
 pub returns-clause-ok : goal.returns-clause-ok
-returns-clause-ok g c = λ from before was start reads part.
+returns-clause-ok g c = λ shortens from before was start reads part.
     let mid = g.R.Source.bytes c.args.reader.now in
     let to = g.R.Source.bytes c.read_piece.new.reader in
     let more : Consumes mid to c.front.result.now = subst (Consumes mid to) (sym c.front.ensures.bytes) c.in_ok-count.ensures.bytes.0 in
     let both = c.in_ok-answer_piece.ensures.ok (last_part part.serves.read) part.kept in
     let brought : 0 < length c.front.result.now =
     omega (arith, ap length c.front.ensures.bytes, c.in_ok-count.ensures.bound.1, c.if-count-eq0.false) in
-    serves_batch from mid to before _ _ was _ _ start c.args.service.now c.answer_piece.new.service c.args.line.now.items c.front.result.now
+    serves_batch shortens from mid to before _ _ was _ _ start c.args.service.now c.answer_piece.new.service c.args.line.now.items c.front.result.now
     reads part more both.1 c.in_ok-write_trace.ensures.ok brought c.release.new.self c.answer_piece.new.line.items c.in_ok-release.ensures.served
     c.in_ok-release.ensures.ok both.0
+
+pub returns-clause-settled : goal.returns-clause-settled
+returns-clause-settled g c = λ more. c.in_ok-release.ensures.ok.settled

@@ -1,12 +1,14 @@
 use Rattle.std.proofs.Common.{◌≡◌, List, ℕ, sym, subst, ◌∙◌}
 use Rattle.kept_records.specs.Keeping.{IsKept}
 use Rattle.site_step.specs.Shortening.{held_of}
+use Rattle.site_service.specs.LetGo.{IsRightOfKey}
 use Rattle.site_service.specs.Kept.{TellsKey, AnswersKey}
 use Rattle.site_service.specs.Answers.{held_in}
 use Rattle.site_service.specs.Index.{IsIndexOf}
 use Rattle.site_service.specs.Service.{ServiceValue}
 use Rattle.site_service.proofs.Links.{sound_looked}
 use Rattle.site_service.proofs.Held.{held_medium, held_kept}
+use Rattle.site_service.proofs.Forgets.{right_key}
 use Rattle.site_service.proofs.service.Service.kept_key.Goals as goal
 
 pub kept_with-requires : goal.kept_with-requires
@@ -23,9 +25,16 @@ returns-clause-kept g c =
     let s = c.self.inside in
     let is : c.bytes.result.now ≡ held_of s.site = c.bytes.ensures.bytes ∙ held_medium c.self.inside.site c.medium.ensures.bytes in
     let found = c.in_ok-found.found in
-    subst (λ (v : ServiceValue). AnswersKey (held_in v.served) v.served.let_go.told v.served.last c.args.key.bytes.now c.key_answer.result)
+    subst (λ (v : ServiceValue). AnswersKey (held_in v.served) v.served.let_go.told v.served.last c.args.key.bytes.now c.args.since
+    c.key_answer.result)
     c.self.view_is
     (found, subst (λ (b : List ℕ). TellsKey b s.keys.last c.args.key.bytes.now found) is c.in_ok-found.ensures.kept, c.key_answer.ensures)
+
+pub returns-clause-right : goal.returns-clause-right
+returns-clause-right g c =
+    let s = c.self.inside in
+    subst (λ (v : ServiceValue). IsRightOfKey v.served.let_go.gone c.args.since c.key_answer.result) c.self.view_is
+    (right_key s.site.gone s.told c.self.invariant.linked.let_go c.args.since c.in_ok-found.found c.key_answer.result c.key_answer.ensures)
 
 pub invariant_of-self : goal.invariant_of-self
 invariant_of-self g c =
