@@ -58,6 +58,28 @@ pub fn open_short<'a, F: LogFile + Drop>(
     }
 }
 
+// A copy of a horizon.
+fn copy_horizon(alloc: Global, horizon: &Horizon) -> Result<Horizon, AllocError>
+    ensures copy { IfOk result (λ copy. copy ≡ horizon.now) }
+{
+    let open_then = Vec::from_slice(alloc, horizon.open_then())?;
+    match Horizon::new(horizon.epoch(), horizon.number(), open_then) {
+        Some(copy) => Ok(copy),
+        None => Err(AllocError),
+    }
+}
+
+// A copy of what is told to be gone.
+fn copy_gone(alloc: Global, gone: &Gone) -> Result<Gone, AllocError>
+    ensures copy { IfOk result (λ copy. copy ≡ gone.now) }
+{
+    Ok(Gone {
+        bytes: gone.bytes,
+        records: gone.records,
+        horizon: copy_horizon(alloc, &gone.horizon)?,
+    })
+}
+
 /// What the head of a log tells to be gone, or None where nothing is. The error is want of memory.
 pub fn gone_of<F: LogFile>(
     alloc: Global,
@@ -68,20 +90,5 @@ pub fn gone_of<F: LogFile>(
     match log.gone() {
         Some(gone) => Ok(Some(copy_gone(alloc, gone)?)),
         None => Ok(None),
-    }
-}
-
-// A copy of what is told to be gone.
-fn copy_gone(alloc: Global, gone: &Gone) -> Result<Gone, AllocError>
-    ensures copy { IfOk result (λ copy. copy ≡ gone.now) }
-{
-    let open_then = Vec::from_slice(alloc, gone.horizon.open_then())?;
-    match Horizon::new(gone.horizon.epoch(), gone.horizon.number(), open_then) {
-        Some(horizon) => Ok(Gone {
-            bytes: gone.bytes,
-            records: gone.records,
-            horizon,
-        }),
-        None => Err(AllocError),
     }
 }

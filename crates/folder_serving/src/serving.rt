@@ -2,7 +2,8 @@
 
 ghost use Rattle.std.specs.Prelude.{◌≡◌, false, true, IfOk, OnOk, OnErr, string_bytes};
 ghost use Rattle.script_input.specs.Streams.{GaveNothing};
-ghost use Rattle.site_service.specs.Opening.{KeepsLines, SparesLines};
+ghost use Rattle.site_service.specs.Behind.{IsOpenedBehind};
+ghost use Rattle.site_service.specs.Opening.{IsOpened, KeepsLines, SparesLines};
 ghost use Rattle.site_service.specs.Service.{IsSettled};
 ghost use Rattle.site_service.specs.Traces.{trace_of, HasTold};
 ghost use Rattle.folder_serving.specs.Serving.{IsNoOlder, IsNoPlain, IsOpenedOver, IsReadyLine, ServesReady, StopsAtReady, StopsReady, TellsReady, ready_text, version_of};
@@ -58,6 +59,66 @@ pub fn refuse_plain<R: ReadsFiles>(
     }
 }
 
+// Why the site isn't opened over its log, as a fault at its path.
+fn open_fault(alloc: Global, paths: &Paths, fault: OpenFault) -> Fault {
+    match fault {
+        OpenFault::Line(line) => refused(alloc, paths.log.as_str(), Why::BadRecord(line)),
+        OpenFault::Device => device_fault(alloc, paths.log.as_str()),
+        OpenFault::NoMemory => Fault::NoMemory,
+    }
+}
+
+// Opens the site over a log of which nothing is told to be gone.
+fn open_whole<F: LogFile + Drop, T: LogFile>(
+    alloc: Global,
+    paths: &Paths,
+    identity: &Identity,
+    log: F,
+    trace: &mut T,
+) -> Result<Service<F>, Fault>
+    ensures opened { IfOk result (IsOpened identity.now.schema identity.now.number
+        (F.bytes log)) }
+    ensures kept { IfOk result (λ service. KeepsLines (F.bytes log) (F.safe log) service.safe) }
+    ensures spared { IfOk result (λ service. SparesLines (F.bytes log) (F.least log)
+        service.least) }
+    ensures told { IfOk result (λ service. HasTold
+        (trace_of (T.bytes trace.old) (T.safe trace.old))
+        (trace_of (T.bytes trace.new) (T.safe trace.new)) service.waiting) }
+    ensures uncut { T.least trace.new ≡ T.least trace.old }
+{
+    let schema = identity.schema().copy()?;
+    match Service::open(alloc, schema, identity.number(), log, trace) {
+        Ok(service) => Ok(service),
+        Err((fault, _log)) => Err(open_fault(alloc, paths, fault)),
+    }
+}
+
+// Opens the site over a log of which this is told to be gone.
+fn open_behind<F: LogFile + Drop, T: LogFile>(
+    alloc: Global,
+    paths: &Paths,
+    identity: &Identity,
+    told: Gone,
+    log: F,
+    trace: &mut T,
+) -> Result<Service<F>, Fault>
+    ensures opened { IfOk result (IsOpenedBehind identity.now.schema identity.now.number told
+        (F.bytes log)) }
+    ensures kept { IfOk result (λ service. KeepsLines (F.bytes log) (F.safe log) service.safe) }
+    ensures spared { IfOk result (λ service. SparesLines (F.bytes log) (F.least log)
+        service.least) }
+    ensures told { IfOk result (λ service. HasTold
+        (trace_of (T.bytes trace.old) (T.safe trace.old))
+        (trace_of (T.bytes trace.new) (T.safe trace.new)) service.waiting) }
+    ensures uncut { T.least trace.new ≡ T.least trace.old }
+{
+    let schema = identity.schema().copy()?;
+    match Service::open_behind(alloc, schema, identity.number(), told, log, trace) {
+        Ok(service) => Ok(service),
+        Err((fault, _log)) => Err(open_fault(alloc, paths, fault)),
+    }
+}
+
 /// Opens the site over its log, of which this was let go as its head tells, or over a whole one where
 /// nothing is told; and tells its trace. The fault is that of the log's first line that is no record or
 /// breaks a rule, that a call of a file failed, or want of memory. Behind what was let go the first line
@@ -80,24 +141,9 @@ pub fn open_service<F: LogFile + Drop, T: LogFile>(
         (trace_of (T.bytes trace.new) (T.safe trace.new)) service.waiting) }
     ensures uncut { T.least trace.new ≡ T.least trace.old }
 {
-    let schema = identity.schema().copy()?;
-    let number = identity.number();
-    let opened = match gone {
-        Some(told) => Service::open_behind(alloc, schema, number, told, log, trace),
-        None => Service::open(alloc, schema, number, log, trace),
-    };
-    match opened {
-        Ok(service) => Ok(service),
-        Err((fault, _log)) => Err(open_fault(alloc, paths, fault)),
-    }
-}
-
-// Why the site isn't opened over its log, as a fault at its path.
-fn open_fault(alloc: Global, paths: &Paths, fault: OpenFault) -> Fault {
-    match fault {
-        OpenFault::Line(line) => refused(alloc, paths.log.as_str(), Why::BadRecord(line)),
-        OpenFault::Device => device_fault(alloc, paths.log.as_str()),
-        OpenFault::NoMemory => Fault::NoMemory,
+    match gone {
+        Some(told) => open_behind(alloc, paths, identity, told, log, trace),
+        None => open_whole(alloc, paths, identity, log, trace),
     }
 }
 
@@ -107,8 +153,7 @@ fn version_of(gone: &Option<Gone>, shortens: bool) -> u8
 {
     match gone {
         Some(_) => 2,
-        None if shortens => 2,
-        None => 1,
+        None => if shortens { 2 } else { 1 },
     }
 }
 
@@ -133,7 +178,9 @@ fn ready_line<F: LogFile>(
     ensures line { IfOk result (λ line. IsReadyLine shortens service.now (string_bytes line)) }
 {
     let stand = stand_held(alloc, service.gone(), service.site().medium().bytes())?;
-    ready_text(alloc, version_of(service.gone(), shortens), stand)
+    let version = version_of(service.gone(), shortens);
+    let line = ready_text(alloc, version, stand)?;
+    Ok(line)
 }
 
 // Writes the first line of all.
