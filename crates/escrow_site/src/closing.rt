@@ -5,11 +5,10 @@ ghost use Rattle.std.specs.Prelude.{◌≡◌, true};
 use crate::creating::{sync_path, write_file};
 use file_medium::{FileFailed, HostFile, LogFile};
 use folder_faults::{Fault, Why, device_fault, failed, not_closed, refused};
-use folder_serving::{open_named, open_sealed};
-use named_log::NamedLog;
+use folder_serving::{open_short, short_fault};
 use sealed_log::Ends;
 use sealed_text::{end_batch, sum_line};
-use site_folder::sealed_log_name;
+use short_files::{ShortFault, ShortFile};
 use std::alloc::Global;
 use std::fs::File;
 use std::os::unix::fs::FileExt;
@@ -19,10 +18,12 @@ use world_folders::{Paths, SiteFolder};
 // What stands in the file of a folder that was closed, for people: that it is there is what counts.
 const SETTLED: &[u8] = b"escrow settled 1\n";
 
-// The first line of a log of version 2, and how many bytes it has.
+// The first line of a log of version 2, and of one of version 3, and how many bytes each has.
 const SEALED: &[u8] = b"escrow log 2\n";
 
-const SEALED_LENGTH: usize = 13;
+const SHORTENED: &[u8] = b"escrow log 3\n";
+
+const FIRST_LENGTH: usize = 13;
 
 // How many bytes the batch that ends a world has with its sum.
 const END: usize = 23;
@@ -36,17 +37,22 @@ fn is_end(bytes: &[u8]) -> bool {
     }
 }
 
-// Whether a log is of version 2, and ends as that of a world that was settled.
+// Whether the first line is that of a log of closed batches.
+fn is_of_batches(first: &[u8]) -> bool {
+    first == SEALED || first == SHORTENED
+}
+
+// Whether a log is of version 2 or 3, and ends as that of a world that was settled.
 fn is_ended(rt: &HostRuntime, path: &str) -> io::Result<bool> {
     let file = File::open(rt, path)?;
     let Some(at) = file.metadata()?.len().checked_sub(END as u64) else {
         return Ok(false);
     };
-    let mut first = [0u8; SEALED_LENGTH];
+    let mut first = [0u8; FIRST_LENGTH];
     let mut last = [0u8; END];
     file.read_exact_at(&mut first, 0)?;
     file.read_exact_at(&mut last, at)?;
-    Ok(first.as_slice() == SEALED && is_end(&last))
+    Ok(is_of_batches(&first) && is_end(&last))
 }
 
 // Whether the file is there that closes a folder with a log of version 1.
@@ -74,15 +80,13 @@ pub(crate) fn settled_fault(alloc: Global, paths: &Paths) -> Fault {
     refused(alloc, paths.folder.as_str(), Why::Settled)
 }
 
-// Ends the world in a log of version 2, unless it was ended before.
-fn end_sealed<F: LogFile + Drop>(
+// Ends the world in a log of version 2 or 3.
+fn end_short<F: LogFile + Drop>(
     alloc: Global,
     paths: &Paths,
-    log: NamedLog<F>,
+    log: ShortFile<'_, F>,
 ) -> Result<(), Fault> {
-    let Some(mut log) = open_sealed(alloc, paths, log)? else {
-        return Ok(());
-    };
+    let mut log = log;
     match log.end() {
         Ok(()) => Ok(()),
         Err(FileFailed) if log.is_lost() => Err(device_fault(alloc, paths.log.as_str())),
@@ -90,16 +94,17 @@ fn end_sealed<F: LogFile + Drop>(
     }
 }
 
-// Ends the world in the log of a folder, and tells whether it is of version 2: else it can't be.
+// Ends the world in the log of a folder, unless it was ended before, and tells whether it is of
+// version 2 or 3: else it can't be.
 fn end_log(alloc: Global, folder: &SiteFolder, file: &mut HostFile) -> Result<bool, Fault> {
-    let name = sealed_log_name(alloc, &folder.identity)?;
-    match open_named(alloc, &folder.paths, file, name.as_slice())? {
-        Some(log) => {
-            end_sealed(alloc, &folder.paths, log)?;
-            Ok(true)
-        }
-        None => Ok(false),
+    let SiteFolder { paths, identity } = folder;
+    match open_short(alloc, identity, &mut *file) {
+        Ok(log) => end_short(alloc, paths, log)?,
+        Err(ShortFault::Ended) => {}
+        Err(ShortFault::Plain) => return Ok(false),
+        Err(fault) => return Err(short_fault(alloc, paths, identity, fault, file)),
     }
+    Ok(true)
 }
 
 // Closes a folder with a log of version 1 by a file beside it. One that is there may not be safe yet.

@@ -43,7 +43,7 @@ fn carry_out(rt: &HostRuntime, task: &Task) -> Result<u8, Fault> {
 
 // The release, and which versions of files are read and made. A folder keeps its own for life.
 const VERSIONS: &str = "escrow_site 0.1.0: \
-    reads site 1 2, log 1 2, trace 1; makes site 2, log 2, trace 1; answers ready 1";
+    reads site 1 2, log 1 2 3, trace 1; makes site 2, log 2 3, trace 1; answers ready 1 2";
 
 fn tell_version(rt: &impl Print) -> Result<(), Fault> {
     match println!(rt; "{VERSIONS}") {

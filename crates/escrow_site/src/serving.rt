@@ -6,20 +6,23 @@ use crate::locking::lock_log;
 use crate::tracing::trace_for;
 use crate::unsynced::UnsyncedFile;
 use file_medium::{HostFile, LogFile};
-use file_swap::HeadedLog;
-use folder_faults::{Fault, Why, refused};
+use file_swap::{HostSwap, LogSyncs, Replaceable};
+use folder_faults::{Fault, Why, failed, refused};
 use folder_serving::{
-    check_age, open_named, open_sealed, open_service, sealed_fault, serve_streams, told_fault,
+    TellsSwap, check_age, gone_of, keep_streams, open_named, open_service, open_short,
+    refuse_plain, sealed_fault, serve_streams, short_fault, told_fault,
 };
+use log_head::Gone;
 use script_input::Watched;
-use sealed_log::SealedLog;
-use site_folder::{Identity, log_name, sealed_log_name};
+use short_files::{ShortFault, ShortFile};
+use short_log::ShortLog;
+use site_folder::{Identity, log_name};
 use site_service::NoTrace;
 use site_tasks::Serving;
 use world_folders::{Paths, TellsFault, read_site};
 
-// Opens the site over a log, and serves it over standard input and output.
-fn serve_log<F: LogFile + Drop, T: LogFile>(
+// Opens the site over a log that is kept whole, and serves it over standard input and output.
+fn serve_whole<F: LogFile + Drop, T: LogFile>(
     rt: &HostRuntime,
     paths: &Paths,
     identity: &Identity,
@@ -27,105 +30,153 @@ fn serve_log<F: LogFile + Drop, T: LogFile>(
     trace: &mut T,
 ) -> Result<(), Fault> {
     let alloc = rt.alloc();
-    let mut service = open_service(alloc, paths, identity, log, trace)?;
+    let mut service = open_service(alloc, paths, identity, None, log, trace)?;
     let mut reader = Watched::new(rt.stdin());
     let mut writer = Watched::new(rt.stdout());
     serve_streams(alloc, paths, &mut service, trace, &mut reader, &mut writer)
 }
 
-// Serves the site over a log, and over its trace where it has one.
-fn serve_traced<F: LogFile + Drop, T: LogFile>(
+// Opens the site over a log of which this was let go, and serves it over standard input and output:
+// the log lets go of more, where so many bytes are to stay.
+fn serve_behind<F: ShortLog + Drop, T: LogFile>(
     rt: &HostRuntime,
     paths: &Paths,
     identity: &Identity,
+    gone: Option<Gone>,
     log: F,
-    trace: &mut Option<T>,
+    trace: &mut T,
+    keep: Option<usize>,
 ) -> Result<(), Fault> {
-    match trace {
-        Some(trace) => serve_log(rt, paths, identity, log, trace),
-        None => serve_log(rt, paths, identity, log, &mut NoTrace),
+    let alloc = rt.alloc();
+    let mut service = open_service(alloc, paths, identity, gone, log, trace)?;
+    let mut reader = Watched::new(rt.stdin());
+    let mut writer = Watched::new(rt.stdout());
+    match keep {
+        Some(keep) => keep_streams(
+            alloc,
+            paths,
+            &mut service,
+            trace,
+            &mut reader,
+            &mut writer,
+            keep,
+        ),
+        None => serve_streams(alloc, paths, &mut service, trace, &mut reader, &mut writer),
     }
 }
 
-// Serves the site over a log of closed batches.
-fn serve_batches<L: HeadedLog, F: TellsFault>(
+// Serves the site over a log of closed batches, and over its trace where it has one.
+fn serve_batches<L: ShortLog + Drop, T: TellsFault>(
     rt: &HostRuntime,
     paths: &Paths,
     identity: &Identity,
-    log: &mut SealedLog<L>,
-    trace: &mut Option<F>,
+    gone: Option<Gone>,
+    log: L,
+    trace: &mut Option<T>,
+    keep: Option<usize>,
 ) -> Result<(), Fault> {
-    match serve_traced(rt, paths, identity, &mut *log, trace) {
+    match trace {
+        Some(trace) => serve_behind(rt, paths, identity, gone, log, trace, keep),
+        None => serve_behind(rt, paths, identity, gone, log, &mut NoTrace, keep),
+    }
+}
+
+// Serves the site over its log of version 2 or 3.
+fn serve_short<F: Replaceable + Drop, T: TellsFault>(
+    rt: &HostRuntime,
+    paths: &Paths,
+    identity: &Identity,
+    log: &mut ShortFile<'_, F>,
+    trace: &mut Option<T>,
+    keep: Option<usize>,
+) -> Result<(), Fault> {
+    let gone = gone_of(rt.alloc(), log)?;
+    match serve_batches(rt, paths, identity, gone, &mut *log, trace, keep) {
         Ok(()) => Ok(()),
         Err(fault) => Err(sealed_fault(rt.alloc(), paths, fault, log.is_lost(), trace)),
     }
 }
 
-// Serves the site over a log of version 2, or tells that the file holds none of this site.
-fn serve_sealed<F: TellsFault>(
+// Serves the site over its log of version 1.
+fn serve_plain<F: TellsSwap, T: TellsFault>(
     rt: &HostRuntime,
     paths: &Paths,
     identity: &Identity,
     file: &mut F,
-    trace: &mut Option<F>,
-) -> Result<bool, Fault> {
-    let alloc = rt.alloc();
-    let name = sealed_log_name(alloc, identity)?;
-    let Some(log) = open_named(alloc, paths, file, name.as_slice())? else {
-        return Ok(false);
-    };
-    let Some(mut log) = open_sealed(alloc, paths, log)? else {
-        return Err(settled_fault(alloc, paths));
-    };
-    serve_batches(rt, paths, identity, &mut log, trace)?;
-    Ok(true)
-}
-
-// Serves the site over a log of version 1.
-fn serve_plain<F: TellsFault>(
-    rt: &HostRuntime,
-    paths: &Paths,
-    identity: &Identity,
-    file: &mut F,
-    trace: &mut Option<F>,
+    trace: &mut Option<T>,
 ) -> Result<(), Fault> {
     let alloc = rt.alloc();
     let name = log_name(alloc, identity)?;
-    match open_named(alloc, paths, file, name.as_slice())? {
-        Some(log) => serve_traced(rt, paths, identity, log, trace),
-        None => Err(refused(alloc, paths.log.as_str(), Why::OtherLog)),
+    let Some(log) = open_named(alloc, paths, file, name.as_slice())? else {
+        return Err(refused(alloc, paths.log.as_str(), Why::OtherLog));
+    };
+    match trace {
+        Some(trace) => serve_whole(rt, paths, identity, log, trace),
+        None => serve_whole(rt, paths, identity, log, &mut NoTrace),
     }
 }
 
-// Serves the site over its files, which are lent, unless the log is another one. Its version is told
-// by the first line of its name.
-fn serve_lent<F: TellsFault>(
+// Serves the site over its files, which are lent. The version of the log is told by its head.
+fn serve_lent<F: TellsSwap, T: TellsFault>(
     rt: &HostRuntime,
     paths: &Paths,
     identity: &Identity,
     file: &mut F,
-    trace: &mut Option<F>,
+    trace: &mut Option<T>,
+    keep: Option<usize>,
 ) -> Result<(), Fault> {
-    if serve_sealed(rt, paths, identity, file, trace)? {
-        return Ok(());
+    match open_short(rt.alloc(), identity, &mut *file) {
+        Ok(mut log) => serve_short(rt, paths, identity, &mut log, trace, keep),
+        Err(ShortFault::Plain) => serve_plain(rt, paths, identity, file, trace),
+        Err(fault) => Err(short_fault(rt.alloc(), paths, identity, fault, file)),
     }
-    serve_plain(rt, paths, identity, file, trace)
 }
 
 // Serves the site over its files. At a device fault the call that failed is told.
-fn serve_files<F: TellsFault>(
+fn serve_files<F: TellsSwap, T: TellsFault>(
     rt: &HostRuntime,
     paths: &Paths,
     identity: &Identity,
     file: F,
-    trace: Option<F>,
+    trace: Option<T>,
+    keep: Option<usize>,
 ) -> Result<(), Fault> {
     let mut file = file;
     let mut trace = trace;
-    match serve_lent(rt, paths, identity, &mut file, &mut trace) {
+    match serve_lent(rt, paths, identity, &mut file, &mut trace, keep) {
         Ok(()) => Ok(()),
         Err(fault) => Err(told_fault(rt.alloc(), paths, fault, &mut file, &mut trace)),
     }
+}
+
+// The log, which another file can take the place of. One that a stop left there before is removed.
+fn swap_of<'a>(
+    rt: &'a HostRuntime,
+    paths: &Paths,
+    file: HostFile,
+    syncs: LogSyncs,
+) -> Result<HostSwap<'a, HostRuntime>, Fault> {
+    let swap = HostSwap::new(rt.alloc(), rt, paths.log.as_str(), file, syncs)?;
+    match swap.remove_left() {
+        Ok(()) => Ok(swap),
+        Err(error) => {
+            let path = format!(in rt.alloc(); "{}.new", paths.log)?;
+            Err(failed(rt.alloc(), path.as_str(), error))
+        }
+    }
+}
+
+// Serves the site over files that are synced.
+fn serve_synced(
+    rt: &HostRuntime,
+    paths: &Paths,
+    identity: &Identity,
+    file: HostFile,
+    trace: Option<HostFile>,
+    keep: Option<usize>,
+) -> Result<(), Fault> {
+    let swap = swap_of(rt, paths, file, LogSyncs::Made)?;
+    serve_files(rt, paths, identity, swap, trace, keep)
 }
 
 // Serves the site over files that aren't synced.
@@ -135,12 +186,14 @@ fn serve_unsynced(
     identity: &Identity,
     file: HostFile,
     trace: Option<HostFile>,
+    keep: Option<usize>,
 ) -> Result<(), Fault> {
+    let swap = swap_of(rt, paths, file, LogSyncs::LeftOut)?;
     let trace = match trace {
         Some(trace) => Some(UnsyncedFile::new(trace)),
         None => None,
     };
-    serve_files(rt, paths, identity, UnsyncedFile::new(file), trace)
+    serve_files(rt, paths, identity, swap, trace, keep)
 }
 
 // The trace of a locked log, which is refused where it is older than was seen before.
@@ -165,6 +218,20 @@ fn refuse_settled(rt: &HostRuntime, paths: &Paths) -> Result<(), Fault> {
     Ok(())
 }
 
+// Refuses a folder whose site can't be served, or not so.
+fn refuse_folder(
+    rt: &HostRuntime,
+    paths: &Paths,
+    identity: &Identity,
+    how: Serving,
+) -> Result<(), Fault> {
+    refuse_settled(rt, paths)?;
+    if how.keep.is_some() {
+        refuse_plain(rt, rt.alloc(), paths, identity)?;
+    }
+    sync_site(rt, paths)
+}
+
 // Serves the site over its log and its trace. What it stands on is safe from a stop of the machine
 // before anything is answered.
 fn serve_site(
@@ -174,13 +241,12 @@ fn serve_site(
     how: Serving,
 ) -> Result<(), Fault> {
     let file = lock_log(rt, paths)?;
-    refuse_settled(rt, paths)?;
-    sync_site(rt, paths)?;
+    refuse_folder(rt, paths, identity, how)?;
     let trace = trace_beside(rt, paths, identity, how)?;
     if how.is_synced {
-        serve_files(rt, paths, identity, file, trace)
+        serve_synced(rt, paths, identity, file, trace, how.keep)
     } else {
-        serve_unsynced(rt, paths, identity, file, trace)
+        serve_unsynced(rt, paths, identity, file, trace, how.keep)
     }
 }
 

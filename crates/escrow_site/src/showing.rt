@@ -126,7 +126,11 @@ fn show_site(rt: &impl Print, identity: &Identity, world: &str, shown: &Shown) -
     println!(rt; "site {}", identity.number().0)?;
     println!(rt; "world {world}")?;
     println!(rt; "epoch {}", shown.standing.epoch)?;
-    println!(rt; "length {}", shown.length)
+    println!(rt; "length {}", shown.length)?;
+    match shown.gone {
+        Some(bytes) => println!(rt; "gone {bytes}"),
+        None => Ok(()),
+    }
 }
 
 // Shows who the folder belongs to, and what its log stands for.

@@ -1,27 +1,58 @@
 -- The first line that is written, and the serving behind it.
-use Rattle.std.proofs.Common.{◌≡◌, ℕ, List, Option, subst, inr}
+use Rattle.std.proofs.Common.{◌≡◌, ℕ, Bool, List, ◌++◌, length, drop, sym, ap, ◌∙◌, subst, inr, Option, None, Some}
+use Rattle.std.specs.Prelude.{IfSome, IfNone}
+use Rattle.std.specs.List.{flat_map}
 use Rattle.std.specs.Io.KnownBytes.{Appends}
+use Rattle.std.proofs.Math.Seq.{drop-append_seam}
 use Rattle.script_input.specs.Streams.{AppendsPrefix}
+use Rattle.kept_records.specs.Text.{text}
+use Rattle.log_head.specs.declared.gone.Gone.{Gone}
 use Rattle.log_stand.specs.declared.stand.Stand.{Stand}
 use Rattle.log_stand.specs.Stand.{IsStandOf}
+use Rattle.held_logs.specs.Counts.{IsStandBehind}
+use Rattle.site_step.specs.Site.{SiteValue}
+use Rattle.site_step.specs.Shortening.{held_of}
+use Rattle.site_service.specs.Answers.{held_in}
 use Rattle.site_service.specs.Service.{ServiceValue, IsSettled}
-use Rattle.folder_serving.specs.Serving.{ready_text, TellsReady, StopsAtReady}
+use Rattle.world_folders.specs.Logs.{HaveCome}
+use Rattle.folder_serving.specs.Serving.{version_of, ready_text, IsReadyLine, TellsReady, StopsAtReady}
 
-pub tells : (before after : Option (List ℕ)) (service : ServiceValue) (stand : Stand) (bytes piece : List ℕ) → IsSettled service
-    → bytes ≡ service.served.site.bytes → IsStandOf bytes stand → piece ≡ ready_text stand → Appends before after piece
-    → TellsReady before after service
-tells before after service stand bytes piece safe is stands text written = record {
-  safe = safe;
+-- what the medium of a site holds
+pub held_medium : (v w : SiteValue) (held : List ℕ) → v.bytes ≡ flat_map text v.gone ++ held → v ≡ w → held ≡ held_of w
+held_medium v w held is same =
+    sym (ap (drop (length (flat_map text v.gone))) is ∙ drop-append_seam (flat_map text v.gone) held) ∙ ap held_of same
+
+-- how far a log has come, by what is told of it
+pub have_come : (gone : Option Gone) (records : List ℕ) (stand : Stand) → IfNone gone (IsStandOf records stand)
+    → IfSome gone (λ g. IsStandBehind g records stand) → HaveCome gone records stand
+have_come None records stand whole behind = whole
+have_come (Some g) records stand whole behind = behind
+
+-- the line that tells it
+pub ready_line : (shortens : Bool) (service : ServiceValue) (gone other : Option Gone) (records : List ℕ) (stand : Stand) (version : ℕ)
+    (line : List ℕ) → gone ≡ service.served.let_go.told → other ≡ service.served.let_go.told → records ≡ held_in service.served
+    → HaveCome gone records stand → version ≡ version_of other shortens → line ≡ ready_text version stand
+    → IsReadyLine shortens service line
+ready_line shortens service gone other records stand version line is again held come told text = record {
   stand = stand;
-  stand_is = subst (λ (b : List ℕ). IsStandOf b stand) is stands;
+  stand_is = subst (λ (b : List ℕ). HaveCome service.served.let_go.told b stand) held
+      (subst (λ (g : Option Gone). HaveCome g records stand) is come);
+  text = text ∙ ap (λ (n : ℕ). ready_text n stand) (told ∙ ap (λ (g : Option Gone). version_of g shortens) again);
+}
+
+pub tells : (shortens : Bool) (before after : Option (List ℕ)) (service : ServiceValue) (line piece : List ℕ) → IsSettled service
+    → IsReadyLine shortens service line → piece ≡ line → Appends before after piece → TellsReady shortens before after service
+tells shortens before after service line piece safe told text written = record {
+  safe = safe;
+  line = line;
+  line_is = told;
   written = subst (λ (p : List ℕ). Appends before after p) text written;
 }
 
-pub stops : (before after : Option (List ℕ)) (service : ServiceValue) (stand : Stand) (bytes piece : List ℕ)
-    → bytes ≡ service.served.site.bytes → IsStandOf bytes stand → piece ≡ ready_text stand → AppendsPrefix before after piece
-    → StopsAtReady before after service
-stops before after service stand bytes piece is stands text written = inr (
-  stand,
-  subst (λ (b : List ℕ). IsStandOf b stand) is stands,
+pub stops : (shortens : Bool) (before after : Option (List ℕ)) (service : ServiceValue) (line piece : List ℕ)
+    → IsReadyLine shortens service line → piece ≡ line → AppendsPrefix before after piece → StopsAtReady shortens before after service
+stops shortens before after service line piece told text written = inr (
+  line,
+  told,
   subst (λ (p : List ℕ). AppendsPrefix before after p) text written,
 )

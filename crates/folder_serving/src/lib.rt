@@ -1,4 +1,4 @@
-//! A site served over the files of its folder: its log opened behind its name, how old it may be, the
+//! A site served over the files of its folder: its log opened behind its head, how old it may be, the
 //! first line that is written, and why the serving ended.
 #![tactic(auto)]
 
@@ -6,6 +6,6 @@ mod failing;
 mod opening;
 mod serving;
 
-pub use failing::{sealed_fault, told_fault};
-pub use opening::{open_named, open_sealed};
-pub use serving::{check_age, open_service, serve_streams};
+pub use failing::{TellsSwap, sealed_fault, short_fault, told_fault};
+pub use opening::{gone_of, open_named, open_short};
+pub use serving::{check_age, keep_streams, open_service, refuse_plain, serve_streams};

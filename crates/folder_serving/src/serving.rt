@@ -1,35 +1,24 @@
 //! A site served over the log of its folder: from the first line of all to the end of the input.
 
-ghost use Rattle.std.specs.Prelude.{◌≡◌, None, IfOk, OnOk, OnErr, string_bytes};
+ghost use Rattle.std.specs.Prelude.{◌≡◌, false, true, IfOk, OnOk, OnErr, string_bytes};
 ghost use Rattle.script_input.specs.Streams.{GaveNothing};
+ghost use Rattle.site_service.specs.Behind.{IsOpenedBehind};
 ghost use Rattle.site_service.specs.Opening.{IsOpened, KeepsLines, SparesLines};
 ghost use Rattle.site_service.specs.Service.{IsSettled};
 ghost use Rattle.site_service.specs.Traces.{trace_of, HasTold};
-ghost use Rattle.folder_serving.specs.Serving.{IsNoOlder, IsStandRead, ServesReady, StopsAtReady, StopsReady, TellsReady, ready_text};
+ghost use Rattle.folder_serving.specs.Serving.{IsNoOlder, IsNoPlain, IsOpenedOver, IsReadyLine, ServesReady, StopsAtReady, StopsReady, TellsReady, ready_text, version_of};
 
 use file_medium::LogFile;
 use folder_faults::{Fault, Why, device_fault, refused};
-use log_stand::{Stand, stand_of};
+use held_logs::stand_held;
+use log_head::Gone;
+use log_stand::Stand;
 use script_input::{Sink, Source};
-use site_folder::Identity;
-use site_service::{OpenFault, ServeFault, Service, serve};
+use short_log::ShortLog;
+use site_folder::{Identity, log_name};
+use site_service::{OpenFault, ServeFault, Service, serve, serve_keeping};
 use std::alloc::Global;
-use world_folders::{Paths, ReadsFiles, read_file, records_in};
-
-// How far the log of the folder has come. It is read without its lock.
-fn read_stand<R: ReadsFiles>(
-    files: &R,
-    alloc: Global,
-    paths: &Paths,
-    identity: &Identity,
-) -> Result<Stand, Fault>
-    ensures stand { IfOk result (IsStandRead (R.holds files.now) (string_bytes paths.now.log)
-        identity.now) }
-{
-    let bytes = read_file(files, alloc, paths.log.as_str(), Why::NoLog)?;
-    let records = records_in(alloc, paths, identity, bytes.as_slice())?;
-    Ok(stand_of(alloc, records.as_slice())?)
-}
+use world_folders::{Paths, ReadsFiles, read_file, read_stand};
 
 /// Refuses a log that is older than was seen of it before. It stays as it is, and is read without its
 /// lock. The fault besides `Old` is that it can't be read or isn't this site's, or want of memory.
@@ -51,9 +40,36 @@ pub fn check_age<R: ReadsFiles>(
     Ok(())
 }
 
-/// Opens the site over its log, and tells its trace. The fault is that of the log's first line that is no
-/// record or breaks a rule, that a call of a file failed, or want of memory.
-pub fn open_service<F: LogFile + Drop, T: LogFile>(
+/// Refuses a log of version 1, whose front can't be let go. It stays as it is, and is read without its
+/// lock. The fault besides `Plain` is that it can't be read, or want of memory.
+pub fn refuse_plain<R: ReadsFiles>(
+    files: &R,
+    alloc: Global,
+    paths: &Paths,
+    identity: &Identity,
+) -> Result<(), Fault>
+    ensures other { OnOk result (IsNoPlain (R.holds files.now) (string_bytes paths.now.log)
+        identity.now) }
+{
+    let name = log_name(alloc, identity)?;
+    let bytes = read_file(files, alloc, paths.log.as_str(), Why::NoLog)?;
+    match bytes.strip_prefix(name.as_slice()) {
+        Some(_) => Err(refused(alloc, paths.log.as_str(), Why::Plain)),
+        None => Ok(()),
+    }
+}
+
+// Why the site isn't opened over its log, as a fault at its path.
+fn open_fault(alloc: Global, paths: &Paths, fault: OpenFault) -> Fault {
+    match fault {
+        OpenFault::Line(line) => refused(alloc, paths.log.as_str(), Why::BadRecord(line)),
+        OpenFault::Device => device_fault(alloc, paths.log.as_str()),
+        OpenFault::NoMemory => Fault::NoMemory,
+    }
+}
+
+// Opens the site over a log of which nothing is told to be gone.
+fn open_whole<F: LogFile + Drop, T: LogFile>(
     alloc: Global,
     paths: &Paths,
     identity: &Identity,
@@ -73,41 +89,114 @@ pub fn open_service<F: LogFile + Drop, T: LogFile>(
     let schema = identity.schema().copy()?;
     match Service::open(alloc, schema, identity.number(), log, trace) {
         Ok(service) => Ok(service),
-        Err((OpenFault::Line(line), _log)) => {
-            Err(refused(alloc, paths.log.as_str(), Why::BadRecord(line)))
-        }
-        Err((OpenFault::Device, _log)) => Err(device_fault(alloc, paths.log.as_str())),
-        Err((OpenFault::NoMemory, _log)) => Err(Fault::NoMemory),
+        Err((fault, _log)) => Err(open_fault(alloc, paths, fault)),
     }
 }
 
-// The line that tells how far the log has come.
-fn ready_line(alloc: Global, stand: Stand) -> Result<String, Fault>
-    ensures text { IfOk result (λ line. string_bytes line ≡ ready_text stand) }
+// Opens the site over a log of which this is told to be gone.
+fn open_behind<F: LogFile + Drop, T: LogFile>(
+    alloc: Global,
+    paths: &Paths,
+    identity: &Identity,
+    told: Gone,
+    log: F,
+    trace: &mut T,
+) -> Result<Service<F>, Fault>
+    ensures opened { IfOk result (IsOpenedBehind identity.now.schema identity.now.number told
+        (F.bytes log)) }
+    ensures kept { IfOk result (λ service. KeepsLines (F.bytes log) (F.safe log) service.safe) }
+    ensures spared { IfOk result (λ service. SparesLines (F.bytes log) (F.least log)
+        service.least) }
+    ensures told { IfOk result (λ service. HasTold
+        (trace_of (T.bytes trace.old) (T.safe trace.old))
+        (trace_of (T.bytes trace.new) (T.safe trace.new)) service.waiting) }
+    ensures uncut { T.least trace.new ≡ T.least trace.old }
+{
+    let schema = identity.schema().copy()?;
+    match Service::open_behind(alloc, schema, identity.number(), told, log, trace) {
+        Ok(service) => Ok(service),
+        Err((fault, _log)) => Err(open_fault(alloc, paths, fault)),
+    }
+}
+
+/// Opens the site over its log, of which this was let go as its head tells, or over a whole one where
+/// nothing is told; and tells its trace. The fault is that of the log's first line that is no record or
+/// breaks a rule, that a call of a file failed, or want of memory. Behind what was let go the first line
+/// is the summary of that.
+pub fn open_service<F: LogFile + Drop, T: LogFile>(
+    alloc: Global,
+    paths: &Paths,
+    identity: &Identity,
+    gone: Option<Gone>,
+    log: F,
+    trace: &mut T,
+) -> Result<Service<F>, Fault>
+    ensures opened { IfOk result (IsOpenedOver identity.now.schema identity.now.number gone
+        (F.bytes log)) }
+    ensures kept { IfOk result (λ service. KeepsLines (F.bytes log) (F.safe log) service.safe) }
+    ensures spared { IfOk result (λ service. SparesLines (F.bytes log) (F.least log)
+        service.least) }
+    ensures told { IfOk result (λ service. HasTold
+        (trace_of (T.bytes trace.old) (T.safe trace.old))
+        (trace_of (T.bytes trace.new) (T.safe trace.new)) service.waiting) }
+    ensures uncut { T.least trace.new ≡ T.least trace.old }
+{
+    match gone {
+        Some(told) => open_behind(alloc, paths, identity, told, log, trace),
+        None => open_whole(alloc, paths, identity, log, trace),
+    }
+}
+
+// The version of the lines that are written.
+fn version_of(gone: &Option<Gone>, shortens: bool) -> u8
+    ensures { result ≡ version_of gone.now shortens }
+{
+    match gone {
+        Some(_) => 2,
+        None => if shortens { 2 } else { 1 },
+    }
+}
+
+// The text of the line that tells how far the log has come.
+fn ready_text(alloc: Global, version: u8, stand: Stand) -> Result<String, Fault>
+    ensures text { IfOk result (λ line. string_bytes line ≡ ready_text version stand) }
 {
     let mut line = String::new(alloc);
     let Stand { epoch, length } = stand;
-    match writeln!(line, "ready 1 {epoch} {length}") {
+    match writeln!(line, "ready {version} {epoch} {length}") {
         Ok(()) => Ok(line),
         Err(_) => Err(Fault::NoMemory),
     }
+}
+
+// The line that tells how far the log of a service has come, of which more will be let go, or won't.
+fn ready_line<F: LogFile>(
+    alloc: Global,
+    service: &Service<F>,
+    shortens: bool,
+) -> Result<String, Fault>
+    ensures line { IfOk result (λ line. IsReadyLine shortens service.now (string_bytes line)) }
+{
+    let stand = stand_held(alloc, service.gone(), service.site().medium().bytes())?;
+    let version = version_of(service.gone(), shortens);
+    let line = ready_text(alloc, version, stand)?;
+    Ok(line)
 }
 
 // Writes the first line of all.
 fn write_ready<F: LogFile, W: Sink>(
     alloc: Global,
     service: &Service<F>,
+    shortens: bool,
     writer: &mut W,
 ) -> Result<(), Fault>
     requires safe { IsSettled service.now }
-    requires whole { service.now.served.let_go.told ≡ None }
-    ensures ready { OnOk result (TellsReady (W.bytes writer.old) (W.bytes writer.new)
+    ensures ready { OnOk result (TellsReady shortens (W.bytes writer.old) (W.bytes writer.new)
         service.now) }
-    ensures refused { OnErr result (StopsAtReady (W.bytes writer.old) (W.bytes writer.new)
-        service.now) }
+    ensures refused { OnErr result (StopsAtReady shortens (W.bytes writer.old)
+        (W.bytes writer.new) service.now) }
 {
-    let stand = stand_of(alloc, service.site().medium().bytes())?;
-    let line = ready_line(alloc, stand)?;
+    let line = ready_line(alloc, service, shortens)?;
     match writer.write_all(line.as_bytes()) {
         Ok(()) => Ok(()),
         Err(_) => Err(Fault::Write),
@@ -146,19 +235,46 @@ pub fn serve_streams<F: LogFile, T: LogFile, R: Source, W: Sink>(
     writer: &mut W,
 ) -> Result<(), Fault>
     requires safe { IsSettled service.old }
-    requires whole { service.old.served.let_go.told ≡ None }
-    ensures ok { OnOk result (ServesReady (R.bytes reader.old) (R.bytes reader.new)
+    ensures ok { OnOk result (ServesReady false (R.bytes reader.old) (R.bytes reader.new)
         (W.bytes writer.old) (W.bytes writer.new) (trace_of (T.bytes trace.old) (T.safe trace.old))
         (trace_of (T.bytes trace.new) (T.safe trace.new)) service.old service.new) }
     ensures end { OnOk result (GaveNothing (R.last reader.new)) }
-    ensures err { OnErr result (StopsReady (R.bytes reader.old) (R.bytes reader.new)
+    ensures err { OnErr result (StopsReady false (R.bytes reader.old) (R.bytes reader.new)
         (W.bytes writer.old) (W.bytes writer.new) (trace_of (T.bytes trace.old) (T.safe trace.old))
         (trace_of (T.bytes trace.new) (T.safe trace.new)) service.old service.new) }
     ensures least { service.new.least ≡ service.old.least }
     ensures uncut { T.least trace.new ≡ T.least trace.old }
 {
-    write_ready(alloc, service, writer)?;
+    write_ready(alloc, service, false, writer)?;
     match serve(alloc, service, trace, reader, writer) {
+        Ok(()) => Ok(()),
+        Err(fault) => Err(serve_fault(alloc, failed_file(paths, service), fault)),
+    }
+}
+
+/// The same over a log whose front is let go meanwhile, as `serve_keeping` does it: what stays of it are
+/// at least so many bytes.
+pub fn keep_streams<F: ShortLog, T: LogFile, R: Source, W: Sink>(
+    alloc: Global,
+    paths: &Paths,
+    service: &mut Service<F>,
+    trace: &mut T,
+    reader: &mut R,
+    writer: &mut W,
+    keep: usize,
+) -> Result<(), Fault>
+    requires safe { IsSettled service.old }
+    ensures ok { OnOk result (ServesReady true (R.bytes reader.old) (R.bytes reader.new)
+        (W.bytes writer.old) (W.bytes writer.new) (trace_of (T.bytes trace.old) (T.safe trace.old))
+        (trace_of (T.bytes trace.new) (T.safe trace.new)) service.old service.new) }
+    ensures end { OnOk result (GaveNothing (R.last reader.new)) }
+    ensures err { OnErr result (StopsReady true (R.bytes reader.old) (R.bytes reader.new)
+        (W.bytes writer.old) (W.bytes writer.new) (trace_of (T.bytes trace.old) (T.safe trace.old))
+        (trace_of (T.bytes trace.new) (T.safe trace.new)) service.old service.new) }
+    ensures uncut { T.least trace.new ≡ T.least trace.old }
+{
+    write_ready(alloc, service, true, writer)?;
+    match serve_keeping(alloc, service, trace, reader, writer, keep) {
         Ok(()) => Ok(()),
         Err(fault) => Err(serve_fault(alloc, failed_file(paths, service), fault)),
     }

@@ -50,6 +50,13 @@ It writes `ready 1 EPOCH LENGTH`, the entry of the site's restart, and then a li
 for each line of the input: a command of `escrow run` at this site and its reply,
 `kept ID -> yes` or `no` for `kept ID`, or `bad line N WHY`. It ends with its input.
 
+With --keep the log is shortened while it is served: it lets go of its front, so that
+disk, memory and the time of a start don't grow with the past. What stays behind its
+first summary are at least BYTES, and in any case the last thousand records; 1048576
+is a good value. Ids and keys of commits that were let go are answered `forgotten`.
+The first line of such a log, and with --keep, is `ready 2 EPOCH LENGTH`; LENGTH counts
+what was let go too. A log of version 1 is refused: it has no sums.
+
 Example input:
   0 begin
   0 escrow 1.1 stock -20
@@ -68,6 +75,11 @@ const TRACE_HELP: &str =
 const NO_SYNC_HELP: &str = "Doesn't sync the log: a stop of the machine may lose what was answered";
 
 const NOT_BEFORE_HELP: &str = "Refuses a log with an earlier epoch or fewer bytes, as an old copy";
+
+const KEEP_HELP: &str = "Lets go of the log's front: what stays are at least so many bytes";
+
+/// The most bytes that may be asked to stay: 2^40.
+const KEEP_MOST: u64 = 1_099_511_627_776;
 
 const NOT_BEFORE_NAMES: &[&str] = &["EPOCH", "LENGTH"];
 
@@ -220,6 +232,15 @@ fn not_before_arg<'a>(alloc: Global) -> Arg<'a> {
         .value_parser(ValueParser::unsigned(0, u64::MAX))
 }
 
+fn keep_arg<'a>(alloc: Global) -> Arg<'a> {
+    Arg::new(alloc, "keep")
+        .long("keep")
+        .value_name("BYTES")
+        .help(KEEP_HELP)
+        .action(ArgAction::Set)
+        .value_parser(ValueParser::unsigned(0, KEEP_MOST))
+}
+
 fn serve_command<'a>(alloc: Global) -> Result<Command<'a>, AllocError> {
     Command::new(alloc, "serve")
         .about(SERVE_ABOUT)
@@ -227,7 +248,8 @@ fn serve_command<'a>(alloc: Global) -> Result<Command<'a>, AllocError> {
         .arg(folder_arg(alloc))?
         .arg(trace_arg(alloc))?
         .arg(no_sync_arg(alloc))?
-        .arg(not_before_arg(alloc))
+        .arg(not_before_arg(alloc))?
+        .arg(keep_arg(alloc))
 }
 
 fn show_command<'a>(alloc: Global) -> Result<Command<'a>, AllocError> {
@@ -343,6 +365,14 @@ fn not_before(asked: &ArgMatches<'_>) -> Option<Stand> {
     }
 }
 
+// How many bytes are to stay, where that is told.
+fn keep_of(asked: &ArgMatches<'_>) -> Option<usize> {
+    match asked.get_one::<u64>("keep") {
+        Some(bytes) => Some(bytes as usize),
+        None => None,
+    }
+}
+
 // The name of a world, where one is given.
 fn name_of(alloc: Global, asked: &ArgMatches<'_>) -> Result<Option<String>, AllocError> {
     match asked.get_str("name") {
@@ -367,6 +397,7 @@ fn serve_task(alloc: Global, asked: &ArgMatches<'_>) -> Result<Task, AllocError>
             is_synced: !asked.get_flag("no-sync"),
             is_traced: asked.get_flag("trace"),
             not_before: not_before(asked),
+            keep: keep_of(asked),
         },
     })
 }

@@ -11,6 +11,9 @@ pub struct Serving {
     pub is_traced: bool,
     /// How far its log has come at least, or None where that isn't told.
     pub not_before: Option<Stand>,
+    /// How many bytes of its log stay at least while it lets go of its front, or None where it keeps
+    /// all.
+    pub keep: Option<usize>,
 }
 
 /// How a world is settled.
