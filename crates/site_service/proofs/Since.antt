@@ -1,5 +1,5 @@
 -- Where a line tells since when its key is looked for.
-use Rattle.std.proofs.Common.{◌≡◌, ◌≢◌, ◌<◌, ◌^◌, ℕ, ◌+◌, List, [], ◌∷◌, ◌++◌, length, codes, Option, None, Some, IfNone, refl, sym, ap, ◌∙◌, subst, append_assoc, arith}
+use Rattle.std.proofs.Common.{◌≡◌, ◌≢◌, ℕ, List, [], ◌∷◌, ◌++◌, length, codes, Option, None, Some, IfNone, refl, sym, ap, ◌∙◌, subst, append_assoc, arith}
 use Rattle.std.specs.Fmt.{decimal}
 use Rattle.std.proofs.lemmas.List.{length-append, append_cancel_left, append_cancel_right}
 use Rattle.std.proofs.lemmas.List.Elements.{All-append, All-cons}
@@ -8,7 +8,6 @@ use Rattle.field_bounds.specs.declared.id.SiteNo.{SiteNo}
 use Rattle.field_bounds.specs.declared.id.TxnId.{TxnId}
 use Rattle.entry_text.specs.Spelling.{id_text}
 use Rattle.entry_text.specs.Ranges.{IdFits}
-use Rattle.kept_records.proofs.Bytes.{has_it}
 use Rattle.caller_keys.specs.Keys.{IsKey}
 use Rattle.caller_keys.proofs.Lines.{tested, number_without}
 use Rattle.site_service.specs.Kept.{kept_key_text, with_since, SinceFits}

@@ -204,52 +204,52 @@ module _ (schema : SchemaValue) (number : SiteNo) (old : SiteValue) (own : schem
   -- a commit with a key
   module _ (line : List ℕ) (txn : TxnId) (key : List ℕ) (since : Option TxnId) (asks : AsksCommit schema number line txn key since)
       (kept : Option TxnId) (tells : TellsKey (held_of old) last key kept) (answer : KeyAnswer) (answers : answer ≡ key_answer front since kept)
-      where
-    commit_here : AsksCommit old.schema old.site line txn key since
-    commit_here =
-        subst (λ (n : SiteNo). AsksCommit old.schema n line txn key since) is
-        (subst (λ (s : SchemaValue). AsksCommit s number line txn key since) own asks)
+    where
+      commit_here : AsksCommit old.schema old.site line txn key since
+      commit_here =
+          subst (λ (n : SiteNo). AsksCommit old.schema n line txn key since) is
+          (subst (λ (s : SchemaValue). AsksCommit s number line txn key since) own asks)
 
-    pub told_refused : (out grown : List ℕ) → answer ≢ No → grown ≡ out ++ (kept_key_text key ++ kept_key_words answer)
-        → Tells line was now out grown
-    told_refused out grown refuses added = record {
-      text = kept_key_text key ++ kept_key_words answer;
-      answer = inr (inr (inl (record {
-        txn = txn;
-        key = key;
-        since = since;
-        asks = commit_here;
-        kept = kept;
-        tells = tells;
-        refuses = subst (λ (a : KeyAnswer). a ≢ No) answers refuses;
-        still = still;
-        told = ap (λ (a : KeyAnswer). kept_key_text key ++ kept_key_words a) answers;
-      })));
-      added = added;
-    }
-
-    module _ (is_no : answer ≡ No) (new : SiteValue) (later : LastNotes) where
-      none : kept ≡ None
-      none = none_kept front since kept (sym answers ∙ is_no)
-
-      committed : (text : List ℕ) → CommitsWith old last txn key new later text
-          → CommittedWithKey was line (served_of new later front count) text
-      committed text commits = record {
-        txn = txn;
-        key = key;
-        since = since;
-        asks = commit_here;
-        tells = subst (TellsKey (held_of old) last key) none tells;
-        answer = ap (key_answer front since) (sym none) ∙ sym answers ∙ is_no;
-        commits = commits_whole old new last later txn key text commits;
-        let_go = same_gone new commits.answered.applies.same.gone;
+      pub told_refused : (out grown : List ℕ) → answer ≢ No → grown ≡ out ++ (kept_key_text key ++ kept_key_words answer)
+          → Tells line was now out grown
+      told_refused out grown refuses added = record {
+        text = kept_key_text key ++ kept_key_words answer;
+        answer = inr (inr (inl (record {
+          txn = txn;
+          key = key;
+          since = since;
+          asks = commit_here;
+          kept = kept;
+          tells = tells;
+          refuses = subst (λ (a : KeyAnswer). a ≢ No) answers refuses;
+          still = still;
+          told = ap (λ (a : KeyAnswer). kept_key_text key ++ kept_key_words a) answers;
+        })));
+        added = added;
       }
 
-      pub told_committed : (out grown : List ℕ) → (text : List ℕ) × CommitsWith old last txn key new later text × (grown ≡ out ++ text)
-          → Tells line was (served_of new later front count) out grown
-      told_committed out grown told = record { text = told.0; answer = inr (inl (committed told.0 told.1)); added = told.2 }
+      module _ (is_no : answer ≡ No) (new : SiteValue) (later : LastNotes) where
+        none : kept ≡ None
+        none = none_kept front since kept (sym answers ∙ is_no)
 
-      pub left_committed : ((new ≡ old) × (later ≡ last)) ⊎ ((text : List ℕ) × CommitsWith old last txn key new later text)
-          → LeavesAnswer was line (served_of new later front count)
-      left_committed (inl same) = inl (still_by new later same.0 same.1)
-      left_committed (inr did) = inr (did.0, inr (inl (committed did.0 did.1)))
+        committed : (text : List ℕ) → CommitsWith old last txn key new later text
+            → CommittedWithKey was line (served_of new later front count) text
+        committed text commits = record {
+          txn = txn;
+          key = key;
+          since = since;
+          asks = commit_here;
+          tells = subst (TellsKey (held_of old) last key) none tells;
+          answer = ap (key_answer front since) (sym none) ∙ sym answers ∙ is_no;
+          commits = commits_whole old new last later txn key text commits;
+          let_go = same_gone new commits.answered.applies.same.gone;
+        }
+
+        pub told_committed : (out grown : List ℕ) → (text : List ℕ) × CommitsWith old last txn key new later text × (grown ≡ out ++ text)
+            → Tells line was (served_of new later front count) out grown
+        told_committed out grown told = record { text = told.0; answer = inr (inl (committed told.0 told.1)); added = told.2 }
+
+        pub left_committed : ((new ≡ old) × (later ≡ last)) ⊎ ((text : List ℕ) × CommitsWith old last txn key new later text)
+            → LeavesAnswer was line (served_of new later front count)
+        left_committed (inl same) = inl (still_by new later same.0 same.1)
+        left_committed (inr did) = inr (did.0, inr (inl (committed did.0 did.1)))
