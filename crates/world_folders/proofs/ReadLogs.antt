@@ -1,8 +1,12 @@
 -- The records of a log that was read, from what each call of it tells.
-use Rattle.std.proofs.Common.{◌≡◌, ℕ, Bool, true, false, not, List, Option, string_bytes, sym, ap, subst, ◌∙◌, inr}
+use Rattle.std.proofs.Common.{◌≡◌, ℕ, Bool, true, false, not, List, Option, None, Some, string_bytes, sym, ap, subst, ◌∙◌, inr}
+use Rattle.std.specs.Prelude.{IfNone, IfSome}
+use Rattle.log_stand.specs.declared.stand.Stand.{Stand}
+use Rattle.log_stand.specs.Stand.{IsStandOf}
 use Rattle.site_folder.specs.Identity.{IdentityValue}
 use Rattle.log_head.specs.declared.gone.Gone.{Gone}
 use Rattle.held_logs.specs.Held.{Holds}
+use Rattle.held_logs.specs.Counts.{IsStandBehind}
 use Rattle.world_folders.specs.declared.worlds.SiteFolder.{SiteFolder}
 use Rattle.world_folders.specs.declared.folder_log.FolderReplay.{FolderReplay}
 use Rattle.world_folders.specs.declared.showing.Shown.{Shown}
@@ -12,7 +16,7 @@ use Rattle.field_bounds.specs.Schema.{SchemaValue}
 use Rattle.log_replay.specs.declared.standing.Standing.{Standing}
 use Rattle.log_replay.specs.declared.log_bytes.LogReplayed.{LogReplayed}
 use Rattle.log_replay.specs.declared.log_bytes.LogReplayed.TheVariants as came
-use Rattle.world_folders.specs.Logs.{AreOfLog, ReplaysLog, ComesAsRead, ShowsLog, TellsHeld, gone_bytes, length_of}
+use Rattle.world_folders.specs.Logs.{AreOfLog, ReplaysLog, ComesAsRead, ShowsLog, HaveCome, TellsHeld, gone_bytes, length_of}
 use Rattle.world_folders.specs.Lost.{TellsLost}
 
 pub read_at : (holds : List ℕ → List ℕ → Type 0) (at path bytes : List ℕ) → at ≡ path → IsRead holds at bytes → IsRead holds path bytes
@@ -26,6 +30,12 @@ of_log holds at path identity file slice gone held records place same is read ho
   read = read_at holds at path file place read;
   held = subst (λ (r : List ℕ). Holds identity file gone r) (sym is) (subst (λ (f : List ℕ). Holds identity f gone held) same holds_it);
 }
+
+-- so far the log has come, whatever is gone of it
+pub have_come : (gone : Option Gone) (records : List ℕ) (stand : Stand) → IfNone gone (IsStandOf records stand)
+    → IfSome gone (λ g. IsStandBehind g records stand) → HaveCome gone records stand
+have_come None records stand whole behind = whole
+have_come (Some gone) records stand whole behind = behind
 
 pub lost_seen : (stands : List ℕ → Bool → Type 0) (folders : List SiteFolder) (s : ℕ) (folder : SiteFolder) (at : List ℕ) (there : Bool)
     → at ≡ string_bytes folder.paths.log → IsFolderOf folders s folder → IsSeen stands at there → TellsLost stands folders s (not there)

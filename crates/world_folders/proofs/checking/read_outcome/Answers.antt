@@ -10,8 +10,8 @@ returns-in-Standing g c =
         size = c.in-Standing.length;
         comes =
             comes_read (g.R.ReadsFiles.holds c.args.files.now) world.folders.items world.schema c.args.site.0 c.in_ok-folder.folder.now
-            c.in_ok-standing.field-0 (came.Standing c.in-Standing.standing c.in-Standing.length) c.in_ok-folder.ensures.own
-            c.in_ok-standing.ensures.replayed c.in-Standing.is;
+            c.in_ok-came.field-0 (came.Standing c.in-Standing.standing c.in-Standing.length) c.in_ok-folder.ensures.own
+            c.in_ok-came.ensures.replayed c.in-Standing.is;
       };
     }
 
@@ -21,6 +21,6 @@ returns-in-BreaksRule g c =
     record {
       outcome =
           comes_read (g.R.ReadsFiles.holds c.args.files.now) world.folders.items world.schema c.args.site.0 c.in_ok-folder.folder.now
-          c.in_ok-standing.field-0 (came.BreaksRule c.in-BreaksRule.number) c.in_ok-folder.ensures.own
-          c.in_ok-standing.ensures.replayed c.in-BreaksRule.is;
+          c.in_ok-came.field-0 (came.BreaksRule c.in-BreaksRule.number) c.in_ok-folder.ensures.own
+          c.in_ok-came.ensures.replayed c.in-BreaksRule.is;
     }
