@@ -1,6 +1,5 @@
 -- What was read of each log, made one list of logs.
 use Rattle.std.proofs.Common.{◌≡◌, ℕ, zero, suc, ◌<◌, List, [], ◌∷◌, ◌++◌, length, get_or, map, drop, Option, Some, None, refl, sym, ap, subst, ◌∙◌, arith}
-use Rattle.std.specs.List.{flat_map}
 use Rattle.std.specs.Prelude.{Result, Ok, Err}
 use Rattle.std.proofs.lemmas.List.{get_or_default, get_or-map, length-map, take-append-drop}
 use Rattle.field_bounds.specs.Schema.{SchemaValue}
@@ -9,7 +8,6 @@ use Rattle.kept_records.specs.declared.record.Record.{Record}
 use Rattle.kept_records.specs.Logs.{Reads, IsLog}
 use Rattle.kept_records.specs.Stands.{Lawful}
 use Rattle.kept_records.specs.Summary.{SummaryValue, summary_record}
-use Rattle.kept_records.specs.Text.{text}
 use Rattle.log_replay.specs.declared.standing.Standing.{Standing}
 use Rattle.log_replay.specs.declared.log_bytes.LogReplayed.TheVariants as came
 use Rattle.log_replay.specs.LogBytes.{ComesTo}
@@ -23,7 +21,7 @@ use Rattle.held_logs.proofs.Spared.{same_base}
 use Rattle.world_logs.specs.declared.field_state.FieldState.{FieldState}
 use Rattle.world_logs.specs.declared.field_state.FieldRange.{FieldRange}
 use Rattle.world_logs.specs.Logs.{AcceptedWithin}
-use Rattle.world_logs.specs.Lost.{known_log, AreRanges}
+use Rattle.world_logs.specs.Lost.{AreRanges}
 use Rattle.world_logs.specs.LostFaults.{KnownWithin}
 use Rattle.world_logs.specs.States.{AreStates, Settles}
 use Rattle.world_logs.specs.Body.{StandFor, StandsForLog, AreForLogs}
