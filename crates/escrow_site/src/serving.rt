@@ -12,10 +12,8 @@ use folder_serving::{
     TellsSwap, check_age, gone_of, keep_streams, open_named, open_service, open_short,
     refuse_plain, sealed_fault, serve_streams, short_fault, told_fault,
 };
-use log_head::Gone;
 use script_input::Watched;
 use short_files::{ShortFault, ShortFile};
-use short_log::ShortLog;
 use site_folder::{Identity, log_name};
 use site_service::NoTrace;
 use site_tasks::Serving;
@@ -36,19 +34,19 @@ fn serve_whole<F: LogFile + Drop, T: LogFile>(
     serve_streams(alloc, paths, &mut service, trace, &mut reader, &mut writer)
 }
 
-// Opens the site over a log of which this was let go, and serves it over standard input and output:
-// the log lets go of more, where so many bytes are to stay.
-fn serve_behind<F: ShortLog + Drop, T: LogFile>(
+// Opens the site over its log of version 2 or 3, and serves it over standard input and output: the log
+// lets go of its front, where so many bytes are to stay.
+fn serve_behind<F: Replaceable + Drop, T: LogFile>(
     rt: &HostRuntime,
     paths: &Paths,
     identity: &Identity,
-    gone: Option<Gone>,
-    log: F,
+    log: &mut ShortFile<'_, F>,
     trace: &mut T,
     keep: Option<usize>,
 ) -> Result<(), Fault> {
     let alloc = rt.alloc();
-    let mut service = open_service(alloc, paths, identity, gone, log, trace)?;
+    let gone = gone_of(alloc, log)?;
+    let mut service = open_service(alloc, paths, identity, gone, &mut *log, trace)?;
     let mut reader = Watched::new(rt.stdin());
     let mut writer = Watched::new(rt.stdout());
     match keep {
@@ -65,23 +63,22 @@ fn serve_behind<F: ShortLog + Drop, T: LogFile>(
     }
 }
 
-// Serves the site over a log of closed batches, and over its trace where it has one.
-fn serve_batches<L: ShortLog + Drop, T: TellsFault>(
+// The same, and over its trace where it has one.
+fn serve_traced<F: Replaceable + Drop, T: TellsFault>(
     rt: &HostRuntime,
     paths: &Paths,
     identity: &Identity,
-    gone: Option<Gone>,
-    log: L,
+    log: &mut ShortFile<'_, F>,
     trace: &mut Option<T>,
     keep: Option<usize>,
 ) -> Result<(), Fault> {
     match trace {
-        Some(trace) => serve_behind(rt, paths, identity, gone, log, trace, keep),
-        None => serve_behind(rt, paths, identity, gone, log, &mut NoTrace, keep),
+        Some(trace) => serve_behind(rt, paths, identity, log, trace, keep),
+        None => serve_behind(rt, paths, identity, log, &mut NoTrace, keep),
     }
 }
 
-// Serves the site over its log of version 2 or 3.
+// The same, and tells why the serving ended.
 fn serve_short<F: Replaceable + Drop, T: TellsFault>(
     rt: &HostRuntime,
     paths: &Paths,
@@ -90,8 +87,7 @@ fn serve_short<F: Replaceable + Drop, T: TellsFault>(
     trace: &mut Option<T>,
     keep: Option<usize>,
 ) -> Result<(), Fault> {
-    let gone = gone_of(rt.alloc(), log)?;
-    match serve_batches(rt, paths, identity, gone, &mut *log, trace, keep) {
+    match serve_traced(rt, paths, identity, log, trace, keep) {
         Ok(()) => Ok(()),
         Err(fault) => Err(sealed_fault(rt.alloc(), paths, fault, log.is_lost(), trace)),
     }

@@ -1,5 +1,5 @@
 -- The first line that is written, and the serving behind it.
-use Rattle.std.proofs.Common.{◌≡◌, ℕ, Bool, List, ◌++◌, length, drop, sym, ap, ◌∙◌, subst, inr, Option, None, Some}
+use Rattle.std.proofs.Common.{◌≡◌, ◌≢◌, ℕ, Bool, List, ◌++◌, length, drop, sym, ap, ◌∙◌, subst, inr, Option, None, Some}
 use Rattle.std.specs.Prelude.{IfSome, IfNone}
 use Rattle.std.specs.List.{flat_map}
 use Rattle.std.specs.Io.KnownBytes.{Appends}
@@ -14,8 +14,10 @@ use Rattle.site_step.specs.Site.{SiteValue}
 use Rattle.site_step.specs.Shortening.{held_of}
 use Rattle.site_service.specs.Answers.{held_in}
 use Rattle.site_service.specs.Service.{ServiceValue, IsSettled}
+use Rattle.site_folder.specs.Identity.{IdentityValue, log_name}
 use Rattle.world_folders.specs.Logs.{HaveCome}
-use Rattle.folder_serving.specs.Serving.{version_of, ready_text, IsReadyLine, TellsReady, StopsAtReady}
+use Rattle.world_folders.specs.Reading.{IsRead}
+use Rattle.folder_serving.specs.Serving.{IsNoPlain, version_of, ready_text, IsReadyLine, TellsReady, StopsAtReady}
 
 -- what the medium of a site holds
 pub held_medium : (v w : SiteValue) (held : List ℕ) → v.bytes ≡ flat_map text v.gone ++ held → v ≡ w → held ≡ held_of w
@@ -23,21 +25,31 @@ held_medium v w held is same =
     sym (ap (drop (length (flat_map text v.gone))) is ∙ drop-append_seam (flat_map text v.gone) held) ∙ ap held_of same
 
 -- how far a log has come, by what is told of it
-pub have_come : (gone : Option Gone) (records : List ℕ) (stand : Stand) → IfNone gone (IsStandOf records stand)
-    → IfSome gone (λ g. IsStandBehind g records stand) → HaveCome gone records stand
+pub have_come : (told : Option Gone) (records : List ℕ) (stand : Stand) → IfNone told (IsStandOf records stand)
+    → IfSome told (λ g. IsStandBehind g records stand) → HaveCome told records stand
 have_come None records stand whole behind = whole
 have_come (Some g) records stand whole behind = behind
 
+-- the file is no log of version 1
+pub no_plain : (holds : List ℕ → List ℕ → Type 0) (path piece : List ℕ) (identity : IdentityValue) (bytes name view prefix : List ℕ)
+    → IsRead holds piece bytes → piece ≡ path → name ≡ log_name identity → view ≡ bytes → prefix ≡ name
+    → ((rest : List ℕ) → view ≢ prefix ++ rest) → IsNoPlain holds path identity
+no_plain holds path piece identity bytes name view prefix read is named view_is prefix_is none = record {
+  bytes = bytes;
+  read = subst (λ (p : List ℕ). IsRead holds p bytes) is read;
+  other = λ rest same. none rest (view_is ∙ same ∙ ap (λ (n : List ℕ). n ++ rest) (sym (prefix_is ∙ named)));
+}
+
 -- the line that tells it
-pub ready_line : (shortens : Bool) (service : ServiceValue) (gone other : Option Gone) (records : List ℕ) (stand : Stand) (version : ℕ)
-    (line : List ℕ) → gone ≡ service.served.let_go.told → other ≡ service.served.let_go.told → records ≡ held_in service.served
-    → HaveCome gone records stand → version ≡ version_of other shortens → line ≡ ready_text version stand
+pub ready_line : (shortens : Bool) (service : ServiceValue) (first again : Option Gone) (records : List ℕ) (stand : Stand) (version : ℕ)
+    (line : List ℕ) → first ≡ service.served.let_go.told → again ≡ service.served.let_go.told → records ≡ held_in service.served
+    → HaveCome first records stand → version ≡ version_of again shortens → line ≡ ready_text version stand
     → IsReadyLine shortens service line
-ready_line shortens service gone other records stand version line is again held come told text = record {
+ready_line shortens service first again records stand version line is too held come told text = record {
   stand = stand;
   stand_is = subst (λ (b : List ℕ). HaveCome service.served.let_go.told b stand) held
       (subst (λ (g : Option Gone). HaveCome g records stand) is come);
-  text = text ∙ ap (λ (n : ℕ). ready_text n stand) (told ∙ ap (λ (g : Option Gone). version_of g shortens) again);
+  text = text ∙ ap (λ (n : ℕ). ready_text n stand) (told ∙ ap (λ (g : Option Gone). version_of g shortens) too);
 }
 
 pub tells : (shortens : Bool) (before after : Option (List ℕ)) (service : ServiceValue) (line piece : List ℕ) → IsSettled service

@@ -63,10 +63,12 @@ pub fn sealed_fault<T: TellsFault>(
 // fault: the log is as it was then.
 fn folder_call<F: TellsSwap>(file: &mut F) -> Option<FileFault> {
     match file.take_step() {
-        Some(SwapFault {
-            step: SwapStep::SyncFolder,
-            error: Some(error),
-        }) => Some(FileFault {
+        Some(
+            SwapFault {
+                step: SwapStep::SyncFolder,
+                error: Some(error),
+            },
+        ) => Some(FileFault {
             call: FileCall::Sync,
             error,
         }),

@@ -1,6 +1,6 @@
 //! A site served over the log of its folder: from the first line of all to the end of the input.
 
-ghost use Rattle.std.specs.Prelude.{◌≡◌, false, true, IfOk, OnOk, OnErr, string_bytes};
+ghost use Rattle.std.specs.Prelude.{◌≡◌, ◌≢◌, ◌++◌, ℕ, List, false, true, IfOk, OnOk, OnErr, MatchOption, string_bytes};
 ghost use Rattle.script_input.specs.Streams.{GaveNothing};
 ghost use Rattle.site_service.specs.Behind.{IsOpenedBehind};
 ghost use Rattle.site_service.specs.Opening.{IsOpened, KeepsLines, SparesLines};
@@ -40,6 +40,14 @@ pub fn check_age<R: ReadsFiles>(
     Ok(())
 }
 
+// What stands behind a name, or None where the bytes don't begin with it.
+fn behind<'a>(bytes: &'a [u8], name: &[u8]) -> Option<&'a [u8]>
+    ensures rest { MatchOption result ((rest : List ℕ) → bytes.now ≢ name.now ++ rest)
+        (λ rest. bytes.now ≡ name.now ++ rest.now) }
+{
+    bytes.strip_prefix(name)
+}
+
 /// Refuses a log of version 1, whose front can't be let go. It stays as it is, and is read without its
 /// lock. The fault besides `Plain` is that it can't be read, or want of memory.
 pub fn refuse_plain<R: ReadsFiles>(
@@ -53,7 +61,7 @@ pub fn refuse_plain<R: ReadsFiles>(
 {
     let name = log_name(alloc, identity)?;
     let bytes = read_file(files, alloc, paths.log.as_str(), Why::NoLog)?;
-    match bytes.strip_prefix(name.as_slice()) {
+    match behind(bytes.as_slice(), name.as_slice()) {
         Some(_) => Err(refused(alloc, paths.log.as_str(), Why::Plain)),
         None => Ok(()),
     }

@@ -1,4 +1,3 @@
-use Rattle.std.proofs.Common.{◌∙◌}
 use Rattle.folder_serving.proofs.Ready.{stops, tells}
 use Rattle.folder_serving.proofs.serving.write_ready.Goals as goal
 
