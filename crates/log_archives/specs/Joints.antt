@@ -1,5 +1,5 @@
 -- Where a part of a log and the next one join (this project).
-use Rattle.std.specs.Prelude.{◌≡◌, ◌≢◌, ◌⊎◌, ℕ, ◌+◌, ◌<◌, ◌&&◌, false, List, [], ◌∷◌, ◌++◌, length, Option, None, Some}
+use Rattle.std.specs.Prelude.{◌≡◌, ◌≢◌, ◌⊎◌, ℕ, ◌+◌, ◌<◌, ◌≤◌, ◌&&◌, false, List, [], ◌∷◌, ◌++◌, length, Option, None, Some}
 use Rattle.std.specs.List.{flat_map, AllByRecursion}
 use Rattle.field_bounds.specs.Schema.{SchemaValue}
 use Rattle.kept_records.specs.declared.record.Record.{Record}
@@ -109,7 +109,7 @@ IsJointFault schema s gone held told next (BadLine number) = FrontComesTo schema
 IsJointFault schema s gone held told next (BreaksRule number) = FrontComesTo schema s gone held (came.BreaksRule number)
 IsJointFault schema s gone held told next Short = EndsBefore gone held told next
 IsJointFault schema s gone held told next OtherBase = HasNoBase next ⊎ HasOtherBase gone held told next
-IsJointFault schema s gone held told next OtherBytes = (told.bytes < bytes_told gone) ⊎ HasWrongHead gone held told OtherBytes
+IsJointFault schema s gone held told next OtherBytes = (told.bytes ≤ bytes_told gone) ⊎ HasWrongHead gone held told OtherBytes
 IsJointFault schema s gone held told next OtherRecords = HasWrongHead gone held told OtherRecords
 IsJointFault schema s gone held told next OtherHorizon = HasWrongHead gone held told OtherHorizon
 
@@ -136,7 +136,7 @@ abbrev pub FindsBase : Option Gone → List ℕ → Gone → List ℕ → Found 
 FindsBase gone held told next (found.At cut base) = HasBaseAt gone held told next cut base
 FindsBase gone held told next found.Short = EndsBefore gone held told next
 FindsBase gone held told next found.OtherBase = HasNoBase next ⊎ HasOtherBase gone held told next
-FindsBase gone held told next found.OtherBytes = told.bytes < bytes_told gone
+FindsBase gone held told next found.OtherBytes = told.bytes ≤ bytes_told gone
 
 -- The lines are records, and lawful where this is gone in front of them.
 abbrev pub HasLines : SchemaValue → ℕ → Option Gone → List ℕ → Type 0

@@ -19,8 +19,8 @@ pub enum JointFault {
     /// The next part begins with no base, or with another line than stands at that place in the part.
     #[error("the next part begins with another base")]
     OtherBase,
-    /// The head of the next part tells other bytes to be gone: it tells fewer than that of the part, or
-    /// no record ends there.
+    /// The head of the next part tells other bytes to be gone: it tells no more than that of the part,
+    /// or no record ends there.
     #[error("the next head tells other bytes")]
     OtherBytes,
     /// The head of the next part tells other records to be gone.

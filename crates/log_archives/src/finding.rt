@@ -16,7 +16,7 @@ pub(crate) enum Found {
     Short,
     /// There is no base, or another line stands there.
     OtherBase,
-    /// The place lies in front of the part.
+    /// The place lies in front of the part, or at its beginning.
     OtherBytes,
 }
 
@@ -34,10 +34,11 @@ fn base_length(alloc: Global, bytes: &[u8]) -> Result<Option<usize>, AllocError>
 
 // Whether a base stands at the place that is told.
 fn base_at(gone: &Option<Gone>, held: &[u8], told: &Gone, base: &[u8]) -> Found {
-    let Some(bytes) = told.bytes.checked_sub(bytes_told(gone)) else {
+    let before = bytes_told(gone);
+    if told.bytes <= before {
         return Found::OtherBytes;
-    };
-    let cut = bytes as usize;
+    }
+    let cut = (told.bytes - before) as usize;
     if held.len() < cut {
         return Found::Short;
     }
