@@ -1,0 +1,5 @@
+pub mod Surveys
+pub mod Finds
+pub mod Joins
+pub mod Reaches
+pub mod Chains

@@ -119,17 +119,34 @@ IsJointFault schema s gone held told next OtherHorizon = HasWrongHead gone held 
 abbrev pub HasBase : List ℕ → ℕ → Type 0
 HasBase bytes n = (base : SummaryValue) × (behind : List ℕ) × IsRecordAt bytes (summary_record base) behind × (n ≡ length (text (summary_record base)))
 
--- The base of the next part, so long, stands in the part at this place, which is the one that is told.
+-- This line, so long, stands in the part at this place, which is the one that is told.
+pub record HasLineAt (gone : Option Gone) (held : List ℕ) (told : Gone) (line : List ℕ) (cut n : ℕ) : Type 0 where
+  pub front : List ℕ
+  pub left : List ℕ
+  pub held_is : held ≡ front ++ (line ++ left)
+  pub cut_is : cut ≡ length front
+  pub size : n ≡ length line
+  pub place : told.bytes ≡ bytes_told gone + cut
+
+-- Another line stands there.
+pub record HasOtherLine (gone : Option Gone) (held : List ℕ) (told : Gone) (line : List ℕ) : Type 0 where
+  pub front : List ℕ
+  pub is_front : IsFront gone held told front
+  pub none : (left : List ℕ) → is_front.left ≢ line ++ left
+
+-- Where a line stands, or why it doesn't.
+abbrev pub FindsLine : Option Gone → List ℕ → Gone → List ℕ → Found → Type 0
+FindsLine gone held told line (found.At cut base) = HasLineAt gone held told line cut base
+FindsLine gone held told line found.Short = bytes_told gone + length held < told.bytes + length line
+FindsLine gone held told line found.OtherBase = HasOtherLine gone held told line
+FindsLine gone held told line found.OtherBytes = told.bytes ≤ bytes_told gone
+
+-- The base of the next part stands in the part at this place.
 pub record HasBaseAt (gone : Option Gone) (held : List ℕ) (told : Gone) (next : List ℕ) (cut n : ℕ) : Type 0 where
   pub base : SummaryValue
   pub behind : List ℕ
-  pub front : List ℕ
-  pub left : List ℕ
   pub next_is : IsRecordAt next (summary_record base) behind
-  pub held_is : held ≡ front ++ (text (summary_record base) ++ left)
-  pub cut_is : cut ≡ length front
-  pub size : n ≡ length (text (summary_record base))
-  pub place : told.bytes ≡ bytes_told gone + cut
+  pub there : HasLineAt gone held told (text (summary_record base)) cut n
 
 -- Where the base stands, or why it doesn't.
 abbrev pub FindsBase : Option Gone → List ℕ → Gone → List ℕ → Found → Type 0

@@ -1,7 +1,7 @@
 //! Where the base of the next part stands in a part.
 
 ghost use Rattle.std.specs.Prelude.{IfOk, IfSome, IfNone};
-ghost use Rattle.log_archives.specs.Joints.{FindsBase, HasBase, HasNoBase};
+ghost use Rattle.log_archives.specs.Joints.{FindsBase, FindsLine, HasBase, HasNoBase};
 
 use crate::reach::bytes_told;
 use kept_records::{LentRecords, Record, RecordLine};
@@ -33,7 +33,9 @@ fn base_length(alloc: Global, bytes: &[u8]) -> Result<Option<usize>, AllocError>
 }
 
 // Whether a base stands at the place that is told.
-fn base_at(gone: &Option<Gone>, held: &[u8], told: &Gone, base: &[u8]) -> Found {
+fn base_at(gone: &Option<Gone>, held: &[u8], told: &Gone, base: &[u8]) -> Found
+    ensures found { FindsLine gone.now held.now told.now base.now result }
+{
     let before = bytes_told(gone);
     if told.bytes <= before {
         return Found::OtherBytes;

@@ -1,8 +1,8 @@
 //! Where two parts of a log join.
 
-ghost use Rattle.std.specs.Prelude.{◌≡◌, ◌+◌, ◌<◌, length, take, IfOk, IfSome, IfNone};
+ghost use Rattle.std.specs.Prelude.{◌≡◌, ◌+◌, ◌<◌, ◌&&◌, ◌↔◌, length, IfOk, IfSome, IfNone, IsTrue};
 ghost use Rattle.folder_logs.specs.Files.{bytes_of};
-ghost use Rattle.log_archives.specs.Heads.{bytes_told};
+ghost use Rattle.log_archives.specs.Heads.{bytes_told, goes_on, records_told};
 ghost use Rattle.log_archives.specs.Joints.{HasLines, HeadTells, IsJointFault, Joins, TellsLines, TellsWrongly};
 
 use crate::fault::JointFault;
@@ -34,6 +34,24 @@ fn why_unlawful(
     }
 }
 
+// Whether so many records more are told to be gone.
+fn tells_records(gone: &Option<Gone>, told: &Gone, more: usize) -> bool
+    ensures is { IsTrue result ↔ (told.now.records ≡ records_told gone.now + more) }
+{
+    u128::from(told.records) == u128::from(records_told(gone)) + more as u128
+}
+
+// Whether a horizon is told that has passed all that might be gone before, and all that goes now.
+fn tells_horizon(gone: &Option<Gone>, told: &Gone, all_may_go: bool) -> bool
+    ensures value { result ≡ all_may_go && goes_on gone.now told.now.horizon }
+{
+    if all_may_go {
+        goes_on(gone, &told.horizon)
+    } else {
+        false
+    }
+}
+
 // Why what is told isn't right once this front of a part is gone too, or None where it is.
 fn why_untold(
     alloc: Global,
@@ -49,10 +67,10 @@ fn why_untold(
     if seen.left != 0 {
         return Ok(Some(JointFault::OtherBytes));
     }
-    if told.records.checked_sub(records_told(gone)) != Some(seen.plain as u64) {
+    if !tells_records(gone, told, seen.plain) {
         return Ok(Some(JointFault::OtherRecords));
     }
-    if !seen.all_may_go || !goes_on(gone, &told.horizon) {
+    if !tells_horizon(gone, told, seen.all_may_go) {
         return Ok(Some(JointFault::OtherHorizon));
     }
     Ok(None)
