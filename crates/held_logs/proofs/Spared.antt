@@ -27,7 +27,7 @@ told_by (Tighten field kind total) = summary_told 0 [] [] [] []
 told_by (Restart epoch) = summary_told 0 [] [] [] []
 told_by (Summary epoch rights gifts accepts tightenings) = summary_told epoch rights gifts accepts tightenings
 
-same_base : (a b : SummaryValue) → summary_record a ≡ summary_record b → a ≡ b
+pub same_base : (a b : SummaryValue) → summary_record a ≡ summary_record b → a ≡ b
 unfolding told_by
 same_base a b same = ap told_by same
 

@@ -3,7 +3,7 @@
 ghost use Rattle.std.specs.Prelude.{◌≡◌, ◌<◌, IfOk, length};
 ghost use Rattle.world_folders.specs.Logs.{AccountsFor, AreOutcomesRead, IsOutcomeRead, StandAsRead};
 
-use crate::folder_log::{bad_record, replay_folder};
+use crate::folder_log::{FolderReplay, bad_record, replay_folder};
 use crate::reading::ReadsFiles;
 use crate::worlds::World;
 use field_bounds::{FieldNo, Kind, Schema, SiteNo};
@@ -27,7 +27,16 @@ pub(crate) fn read_outcome<R: ReadsFiles>(
     let folder = world.named_folder(site)?;
     let paths = &folder.paths;
     files.tell_reading(paths.folder.as_str(), site, world.schema.sites());
-    match replay_folder(files, alloc, paths, &folder.identity, &world.schema, site)?.came {
+    let identity = &folder.identity;
+    let FolderReplay { came, .. } = replay_folder(
+        files,
+        alloc,
+        paths,
+        identity,
+        &world.schema,
+        site,
+    )?;
+    match came {
         LogReplayed::Standing { standing, .. } => Ok(Ok(standing)),
         LogReplayed::BadLine { number } => Err(bad_record(alloc, paths, number)),
         LogReplayed::BreaksRule { number } => Ok(Err(number)),

@@ -1,6 +1,6 @@
 use Rattle.std.proofs.Common.{arith}
-use Rattle.held_logs_tests.proofs.Standings.{stands_told}
-use Rattle.held_logs_tests.proofs.tests.replays.replayed.Goals as goal
+use Rattle.folder_tests.proofs.Standings.{stands_told}
+use Rattle.folder_tests.proofs.of_held_logs.replays.replayed.Goals as goal
 
 pub told-requires : goal.told-requires
 told-requires c =
