@@ -75,41 +75,36 @@ module _ (schema : SchemaValue) (s : ℕ) (front tail : List Record) (base : Sum
       }
 
 -- the first record of a part is the first of those from it on
-first_joined : (schema : SchemaValue) (s : ℕ) (gone : Option Gone) (held : List ℕ) (parts : List PartValue) (r : Record) (rs : List Record)
-    → AreJoined schema s gone held parts (r ∷ rs) → (left : List ℕ) × IsRecordAt held r left
-first_joined schema s gone held [] r rs joined =
-    let log = joined.1 in
+first_by : (schema : SchemaValue) (s : ℕ) (gone : Option Gone) (held : List ℕ) (p : PartValue) (r : Record) (rs tail : List Record)
+    → (joins : Joins schema s gone held p.gone p.held) → (tail ≡ r ∷ rs → (left : List ℕ) × IsRecordAt p.held r left)
+    → (front : List Record) → held ≡ flat_map text front ++ (text (summary_record joins.base) ++ joins.left)
+    → AllByRecursion IsRecord front → r ∷ rs ≡ front ++ tail → (left : List ℕ) × IsRecordAt held r left
+first_by schema s gone held p r rs tail joins next [] held_is each is =
+    let at = next (sym is) in
+    let one : summary_record joins.base ≡ r =
+    same_first p.held (summary_record joins.base) r joins.behind at.0 joins.next_is at.1 in
+    (
+      joins.left,
+      subst (λ (x : Record). IsRecordAt held x joins.left) one (record { parts = held_is; fits = joins.next_is.fits }),
+    )
+first_by schema s gone held p r rs tail joins next (q ∷ qs) held_is each is =
+    let one : q ≡ r = cc in
+    let line : List ℕ = text (summary_record joins.base) in
+    (
+      flat_map text qs ++ (line ++ joins.left),
+      subst (λ (x : Record). IsRecordAt held x (flat_map text qs ++ (line ++ joins.left))) one
+          (record { parts = held_is ∙ append_assoc (text q) (flat_map text qs) (line ++ joins.left); fits = each.0 }),
+    )
+
+first_joined : (schema : SchemaValue) (s : ℕ) (gone : Option Gone) (held : List ℕ) (parts : List PartValue) (r : Record) (rs all : List Record)
+    → all ≡ r ∷ rs → AreJoined schema s gone held parts all → (left : List ℕ) × IsRecordAt held r left
+first_joined schema s gone held [] r rs all is joined =
+    let log = subst (λ (l : List Record). IsLog held l joined.0) is joined.1 in
     (flat_map text rs ++ joined.0, record { parts = log.parts ∙ append_assoc (text r) (flat_map text rs) joined.0; fits = log.each.0 })
-first_joined schema s gone held (p ∷ ps) r rs joined =
-    by joined.0.front joined.0.held_is joined.0.each joined.2
-  where
-    joins : Joins schema s gone held p.gone p.held
-    joins = joined.0
-
-    line : List ℕ
-    line = text (summary_record joins.base)
-
-    by : (front : List Record) → held ≡ flat_map text front ++ (line ++ joins.left) → AllByRecursion IsRecord front
-        → r ∷ rs ≡ front ++ joined.1 → (left : List ℕ) × IsRecordAt held r left
-    by [] held_is each is =
-        let tail : AreJoined schema s (Some p.gone) p.held ps (r ∷ rs) =
-        subst (λ (l : List Record). AreJoined schema s (Some p.gone) p.held ps l) (sym is) joined.3 in
-        let at = first_joined schema s (Some p.gone) p.held ps r rs tail in
-        let one : summary_record joins.base ≡ r =
-        same_first p.held (summary_record joins.base) r joins.behind at.0 joins.next_is at.1 in (
-          joins.left,
-          subst (λ (x : Record). IsRecordAt held x joins.left) one (record { parts = held_is; fits = joins.next_is.fits }),
-        )
-    by (q ∷ qs) held_is each is =
-        let one : r ≡ q = cc in (
-          flat_map text qs ++ (line ++ joins.left),
-          record {
-            parts =
-                held_is ∙ append_assoc (text q) (flat_map text qs) (line ++ joins.left)
-                ∙ ap (λ (x : Record). text x ++ (flat_map text qs ++ (line ++ joins.left))) (sym one);
-            fits = subst (λ (x : Record). IsRecord x) (sym one) each.0;
-          },
-        )
+first_joined schema s gone held (p ∷ ps) r rs all is joined =
+    first_by schema s gone held p r rs joined.1 joined.0
+    (λ same. first_joined schema s (Some p.gone) p.held ps r rs joined.1 same joined.3)
+    joined.0.front joined.0.held_is joined.0.each (sym is ∙ joined.2)
 
 -- joined records are lawful
 pub joined_from : (schema : SchemaValue) (s : ℕ) (gone : Option Gone) (held : List ℕ) (parts : List PartValue) (rs : List Record)
@@ -119,9 +114,7 @@ joined_from schema s gone held (p ∷ ps) rs joined =
     let joins = joined.0 in
     let tail = joined.1 in
     let from : AreBehindBase schema s tail = joined_from schema s (Some p.gone) p.held ps tail joined.3 in
-    let first : AreJoined schema s (Some p.gone) p.held ps (summary_record from.base ∷ from.behind) =
-    subst (λ (l : List Record). AreJoined schema s (Some p.gone) p.held ps l) from.first joined.3 in
-    let at = first_joined schema s (Some p.gone) p.held ps (summary_record from.base) from.behind first in
+    let at = first_joined schema s (Some p.gone) p.held ps (summary_record from.base) from.behind tail from.first joined.3 in
     let same : summary_record joins.base ≡ summary_record from.base =
     same_first p.held (summary_record joins.base) (summary_record from.base) joins.behind at.0 joins.next_is at.1 in
     subst (λ (l : List Record). AreFrom schema s gone l) (sym joined.2)

@@ -1,5 +1,6 @@
 -- Two parts that join.
 use Rattle.std.proofs.Common.{◌≡◌, ◌⊎◌, ℕ, ◌+◌, ◌-◌, true, false, List, [], ◌∷◌, ◌++◌, length, take, drop, Option, None, Some, refl, sym, ap, subst, ◌∙◌, inl, inr, arith, append_assoc}
+use Rattle.std.specs.Prelude.{Result, Ok, Err, IfOk, IfNone}
 use Rattle.std.specs.List.{flat_map, AllByRecursion}
 use Rattle.std.proofs.Math.Seq.{take-append_seam}
 use Rattle.std.proofs.lemmas.List.{append-nil, length-append, take-append-drop}
@@ -38,7 +39,7 @@ has_lines schema s (Some gone) bytes standing n comes rs log =
 -- where the base stands, the lines up to and with it are lawful, and the head tells rightly, the parts join
 module _ (schema : SchemaValue) (s : ℕ) (gone : Option Gone) (held : List ℕ) (told : Gone) (next : List ℕ) (cut n : ℕ)
     (at : HasBaseAt gone held told next cut n) where
-  line : List ℕ
+  abbrev pub line : List ℕ
   line = text (summary_record at.base)
 
   pub front_is : take cut held ≡ at.there.front
@@ -101,3 +102,10 @@ module _ (schema : SchemaValue) (s : ℕ) (gone : Option Gone) (held : List ℕ)
   of_head OtherBytes tells = inr (take cut held, is_front, tells)
   of_head OtherRecords tells = (take cut held, is_front, tells)
   of_head OtherHorizon tells = (take cut held, is_front, tells)
+
+-- what follows where no fault is told
+pub if_none : {E A B : Type 0} (result : Result (Option JointFault) E) → (A → B) → IfOk result (λ fault. IfNone fault A)
+    → IfOk result (λ fault. IfNone fault B)
+if_none (Ok None) f is = f is
+if_none (Ok (Some fault)) f is = is
+if_none (Err refused) f is = is

@@ -13,7 +13,7 @@ use Rattle.kept_records.specs.Text.{text}
 use Rattle.kept_records.specs.Stands.{is_summary, plain}
 use Rattle.log_head.specs.declared.gone.Gone.{Gone}
 use Rattle.log_head.specs.Horizons.{HorizonValue, is_listed, is_passed, is_up_to, last_of}
-use Rattle.log_archives.specs.Heads.{AreGone, AreTold, TellsMore, all_may_go, bytes_told, goes_on, may_go, reaches, records_told, txn_of}
+use Rattle.log_archives.specs.Heads.{AreGone, AreTold, TellsMore, all_may_go, bytes_told, goes_on, may_go, reaches, records_told, txn_of, were_beyond}
 
 -- ---- horizons
 
@@ -61,26 +61,26 @@ passed_up h txn e =
     ]
 
 -- none of those that are listed was passed before
-none_listed : (old : HorizonValue) (epoch n : ℕ) (ns : List ℕ) → list_all (λ m. not (is_passed old (txn_of epoch m))) ns ≡ true
+none_listed : (old : HorizonValue) (epoch n : ℕ) (ns : List ℕ) → were_beyond old epoch ns ≡ true
     → is_passed old (txn_of epoch n) ≡ true → is_listed n ns ≡ false
 none_listed old epoch n [] all passed = refl
 none_listed old epoch n (m ∷ ns) all passed =
-    let p = and_parts (not (is_passed old (txn_of epoch m))) (list_all (λ m. not (is_passed old (txn_of epoch m))) ns) all in
+    let p = and_parts (not (is_passed old (txn_of epoch m))) (were_beyond old epoch ns) all in
     by (m == n) refl p.0 (none_listed old epoch n ns p.1 passed)
   where
     wrong : m ≡ n → not (is_passed old (txn_of epoch m)) ≡ true → ⊥
-    wrong same no =
+    wrong same isnt =
         let yes : is_passed old (txn_of epoch m) ≡ true = subst (λ (k : ℕ). is_passed old (txn_of epoch k) ≡ true) (sym same) passed in
-        absurd (let both : false ≡ true = sym (ap not yes) ∙ no in cc)
+        absurd (let both : false ≡ true = sym (ap not yes) ∙ isnt in cc)
 
     by : (b : Bool) → (m == n) ≡ b → not (is_passed old (txn_of epoch m)) ≡ true → is_listed n ns ≡ false → is_listed n (m ∷ ns) ≡ false
-    by true e no none = absurd (wrong (eqb-true m n e) no)
-    by false e no none = rw (e, none) refl
+    by true e isnt none = absurd (wrong (eqb-true m n e) isnt)
+    by false e isnt none = rw (e, none) refl
 
 -- what one has passed a further one has passed
 passes_on : (old new : HorizonValue) (txn : TxnId) → reaches old new ≡ true → is_passed old txn ≡ true → is_passed new txn ≡ true
 passes_on old new txn further passed =
-    let p = and_parts (is_up_to (last_of new) (last_of old)) (list_all (λ n. not (is_passed old (txn_of new.epoch n))) new.open_then) further in
+    let p = and_parts (is_up_to (last_of new) (last_of old)) (were_beyond old new.epoch new.open_then) further in
     passed_by new txn
     (chain new.epoch new.number old.epoch old.number txn.epoch txn.number (up_to (last_of new) (last_of old) p.0) (passed_up old txn passed))
     (λ same. none_listed old new.epoch txn.number new.open_then p.1

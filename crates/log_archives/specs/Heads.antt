@@ -34,10 +34,13 @@ all_may_go h rs = list_all (may_go h) rs
 abbrev pub txn_of : ℕ → ℕ → TxnId
 txn_of epoch number = record { epoch = epoch; number = number }
 
+-- The horizon has passed none of these transactions of an epoch.
+abbrev pub were_beyond : HorizonValue → ℕ → List ℕ → Bool
+were_beyond old epoch ns = list_all (λ n. not (is_passed old (txn_of epoch n))) ns
+
 -- The new horizon has passed all that the old one has: it reaches as far, and lists none that the old one has passed.
 abbrev pub reaches : HorizonValue → HorizonValue → Bool
-reaches old new =
-    is_up_to (last_of new) (last_of old) && list_all (λ n. not (is_passed old (txn_of new.epoch n))) new.open_then
+reaches old new = is_up_to (last_of new) (last_of old) && were_beyond old new.epoch new.open_then
 
 abbrev pub goes_on : Option Gone → HorizonValue → Bool
 goes_on None new = true

@@ -1,10 +1,10 @@
 //! Where the base of the next part stands in a part.
 
-ghost use Rattle.std.specs.Prelude.{IfOk, IfSome, IfNone};
+ghost use Rattle.std.specs.Prelude.{◌≡◌, ◌≢◌, ◌++◌, ℕ, List, IfOk, IfSome, IfNone, MatchOption};
 ghost use Rattle.log_archives.specs.Joints.{FindsBase, FindsLine, HasBase, HasNoBase};
 
 use crate::reach::bytes_told;
-use kept_records::{LentRecords, Record, RecordLine};
+use kept_records::{LentRecords, RecordLine, plain_count};
 use log_head::Gone;
 use std::alloc::{AllocError, Global};
 
@@ -26,10 +26,23 @@ fn base_length(alloc: Global, bytes: &[u8]) -> Result<Option<usize>, AllocError>
     ensures none { IfOk result (λ told. IfNone told (HasNoBase bytes.now)) }
 {
     let mut lines = LentRecords::new(alloc, bytes);
-    match lines.next_line(alloc)? {
-        RecordLine::Record(Record::Summary { .. }) => Ok(Some(bytes.len() - lines.left())),
-        RecordLine::Record(_) | RecordLine::NoRecord | RecordLine::End => Ok(None),
+    let first = match lines.next_line(alloc)? {
+        RecordLine::Record(first) => first,
+        RecordLine::NoRecord => return Ok(None),
+        RecordLine::End => return Ok(None),
+    };
+    if plain_count(&first) > 0 {
+        return Ok(None);
     }
+    Ok(Some(bytes.len() - lines.left()))
+}
+
+// What stands behind a line, or None where the bytes don't begin with it.
+fn behind<'a>(bytes: &'a [u8], line: &[u8]) -> Option<&'a [u8]>
+    ensures rest { MatchOption result ((rest : List ℕ) → bytes.now ≢ line.now ++ rest)
+        (λ rest. bytes.now ≡ line.now ++ rest.now) }
+{
+    bytes.strip_prefix(line)
 }
 
 // Whether a base stands at the place that is told.
@@ -44,12 +57,12 @@ fn base_at(gone: &Option<Gone>, held: &[u8], told: &Gone, base: &[u8]) -> Found
     if held.len() < cut {
         return Found::Short;
     }
-    let (_front, behind) = held.split_at(cut);
-    if behind.len() < base.len() {
+    let (_front, left) = held.split_at(cut);
+    if left.len() < base.len() {
         return Found::Short;
     }
-    match behind.strip_prefix(base) {
-        Some(_left) => Found::At {
+    match behind(left, base) {
+        Some(_rest) => Found::At {
             cut,
             base: base.len(),
         },

@@ -1,7 +1,8 @@
 //! What heads tell, and whether a horizon goes on from another.
 
 ghost use Rattle.std.specs.Prelude.{◌≡◌};
-ghost use Rattle.log_archives.specs.Heads.{bytes_told, records_told, goes_on, may_go, reaches};
+ghost use Rattle.log_head.specs.Horizons.{is_up_to, last_of};
+ghost use Rattle.log_archives.specs.Heads.{bytes_told, records_told, goes_on, may_go, reaches, were_beyond};
 
 use field_bounds::TxnId;
 use kept_records::Record;
@@ -41,19 +42,36 @@ pub(crate) fn may_go(horizon: &Horizon, next: &Record) -> bool
     }
 }
 
+// Whether the new horizon reaches as far as the old one.
+fn is_as_far(old: &Horizon, new: &Horizon) -> bool
+    ensures value { result ≡ is_up_to (last_of new.now) (last_of old.now) }
+{
+    if old.epoch() < new.epoch() {
+        return true;
+    }
+    old.epoch() == new.epoch() && old.number() <= new.number()
+}
+
+// Whether none of these transactions of an epoch was passed by the horizon.
+fn were_beyond(old: &Horizon, epoch: u32, numbers: &[u32]) -> bool
+    ensures value { result ≡ were_beyond old.now epoch numbers.now }
+{
+    numbers.iter().all(|number| {
+        !old.has_passed(TxnId {
+            epoch,
+            number: *number,
+        })
+    })
+}
+
 // Whether the new horizon has passed all that the old one has.
 fn reaches(old: &Horizon, new: &Horizon) -> bool
     ensures value { result ≡ reaches old.now new.now }
 {
-    let epoch = new.epoch();
-    let is_up_to = old.epoch() < epoch || (old.epoch() == epoch && old.number() <= new.number());
-    is_up_to
-        && new.open_then().iter().all(|number| {
-            !old.has_passed(TxnId {
-                epoch,
-                number: *number,
-            })
-        })
+    if !is_as_far(old, new) {
+        return false;
+    }
+    were_beyond(old, new.epoch(), new.open_then())
 }
 
 /// Whether the horizon has passed all that might be gone before.
