@@ -14,7 +14,7 @@ use Rattle.log_head.specs.declared.gone.Gone.{Gone}
 use Rattle.log_archives.specs.declared.finding.Found.{Found}
 use Rattle.log_archives.specs.declared.finding.Found.TheVariants as found
 use Rattle.log_archives.specs.Heads.{bytes_told}
-use Rattle.log_archives.specs.Joints.{FindsBase, FindsLine, HasBase, HasLineAt, HasNoBase, HasOtherLine}
+use Rattle.log_archives.specs.Joints.{FindsBase, FindsLine, HasBase, HasNoBase, HasOtherLine}
 
 -- a record that isn't counted is a base
 pub base_of : (r : Record) → length (plain (r ∷ [])) ≡ 0 → (base : SummaryValue) × (r ≡ summary_record base)
@@ -76,17 +76,6 @@ finds_base gone held told next behind base line found.OtherBase at same finds = 
 finds_base gone held told next behind base line found.OtherBytes at same finds = finds
 
 -- at a place that is told
-pub has_line : (gone : Option Gone) (held : List ℕ) (told : Gone) (line left rest : List ℕ) (cut : ℕ) → cut ≤ length held
-    → left ≡ drop cut held → left ≡ line ++ rest → told.bytes ≡ bytes_told gone + cut → HasLineAt gone held told line cut (length line)
-has_line gone held told line left rest cut within back is place = record {
-  front = take cut held;
-  left = rest;
-  held_is = sym (take-append-drop cut held) ∙ ap (λ (l : List ℕ). take cut held ++ l) (sym back ∙ is);
-  cut_is = sym (length-take-le cut held within);
-  size = refl;
-  place = place;
-}
-
 pub other_line : (gone : Option Gone) (held : List ℕ) (told : Gone) (line left : List ℕ) (cut : ℕ) → cut ≤ length held
     → left ≡ drop cut held → ((rest : List ℕ) → left ≢ line ++ rest) → told.bytes ≡ bytes_told gone + cut → HasOtherLine gone held told line
 other_line gone held told line left cut within back none place = record {

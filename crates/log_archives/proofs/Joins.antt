@@ -74,6 +74,9 @@ module _ (schema : SchemaValue) (s : ℕ) (gone : Option Gone) (held : List ℕ)
         base = at.base;
         left = at.there.left;
         behind = at.behind;
+        some = λ none.
+            let size : length at.there.front ≡ 0 = ap length (front_texts ∙ ap (λ (l : List Record). flat_map text l) none) in
+            absurd (omega (arith, at.there.some, at.there.cut_is, size));
         held_is = at.there.held_is ∙ ap (λ (l : List ℕ). l ++ (line ++ at.there.left)) front_texts;
         each = begins.each;
         next_is = at.next_is;
@@ -83,8 +86,8 @@ module _ (schema : SchemaValue) (s : ℕ) (gone : Option Gone) (held : List ℕ)
 
   -- and else not
   pub of_lines : (fault : JointFault) → TellsLines schema s gone (take (cut + n) held) fault → IsJointFault schema s gone held told next fault
-  of_lines (BadLine number) tells = (take (cut + n) held, drop (cut + n) held, sym (take-append-drop (cut + n) held), tells)
-  of_lines (BreaksRule number) tells = (take (cut + n) held, drop (cut + n) held, sym (take-append-drop (cut + n) held), tells)
+  of_lines (BadLine number) tells = record { cut = cut; size = n; at = at; comes = tells }
+  of_lines (BreaksRule number) tells = record { cut = cut; size = n; at = at; comes = tells }
   of_lines Short tells = absurd tells
   of_lines OtherBase tells = absurd tells
   of_lines OtherBytes tells = absurd tells

@@ -3,3 +3,4 @@ pub mod Finds
 pub mod Joins
 pub mod Reaches
 pub mod Chains
+pub mod Spares

@@ -1,5 +1,5 @@
 -- Where a part of a log and the next one join (this project).
-use Rattle.std.specs.Prelude.{◌≡◌, ◌≢◌, ◌⊎◌, ℕ, ◌+◌, ◌<◌, ◌≤◌, ◌&&◌, false, List, [], ◌∷◌, ◌++◌, length, Option, None, Some}
+use Rattle.std.specs.Prelude.{◌≡◌, ◌≢◌, ◌⊎◌, ℕ, ◌+◌, ◌<◌, ◌≤◌, ◌&&◌, false, List, [], ◌∷◌, ◌++◌, length, take, Option, None, Some}
 use Rattle.std.specs.List.{flat_map, AllByRecursion}
 use Rattle.field_bounds.specs.Schema.{SchemaValue}
 use Rattle.kept_records.specs.declared.record.Record.{Record}
@@ -42,13 +42,14 @@ TellsHeld schema s (Some gone) bytes replayed = TellsBehind schema s bytes repla
 
 -- ---- two parts
 
--- The next part, in front of which this is told to be gone, goes on where the front of this one ends: there the base of the next one stands
--- in this one too; what stands up to and with it is lawful; and what is told is right of the front.
+-- The next part, in front of which this is told to be gone, goes on where a front of this one ends, of one record or more: there the base
+-- of the next one stands in this one too; what stands up to and with it is lawful; and what is told is right of the front.
 pub record Joins (schema : SchemaValue) (s : ℕ) (gone : Option Gone) (held : List ℕ) (told : Gone) (next : List ℕ) : Type 0 where
   pub front : List Record
   pub base : SummaryValue
   pub left : List ℕ
   pub behind : List ℕ
+  pub some : front ≢ []
   pub held_is : held ≡ flat_map text front ++ (text (summary_record base) ++ left)
   pub each : AllByRecursion IsRecord front
   pub next_is : IsRecordAt next (summary_record base) behind
@@ -57,9 +58,30 @@ pub record Joins (schema : SchemaValue) (s : ℕ) (gone : Option Gone) (held : L
 
 -- ---- why two parts don't join
 
--- A front of the records comes to this.
-abbrev pub FrontComesTo : SchemaValue → ℕ → Option Gone → List ℕ → LogReplayed → Type 0
-FrontComesTo schema s gone held replayed = (front left : List ℕ) × (held ≡ front ++ left) × TellsHeld schema s gone front replayed
+-- This line, so long, stands in the part at this place, which is the one that is told, and not its beginning.
+pub record HasLineAt (gone : Option Gone) (held : List ℕ) (told : Gone) (line : List ℕ) (cut n : ℕ) : Type 0 where
+  pub front : List ℕ
+  pub left : List ℕ
+  pub held_is : held ≡ front ++ (line ++ left)
+  pub cut_is : cut ≡ length front
+  pub size : n ≡ length line
+  pub some : 0 < cut
+  pub place : told.bytes ≡ bytes_told gone + cut
+
+-- The base of the next part, so long, stands in the part at this place.
+pub record HasBaseAt (gone : Option Gone) (held : List ℕ) (told : Gone) (next : List ℕ) (cut n : ℕ) : Type 0 where
+  pub base : SummaryValue
+  pub behind : List ℕ
+  pub next_is : IsRecordAt next (summary_record base) behind
+  pub there : HasLineAt gone held told (text (summary_record base)) cut n
+
+-- The lines of the part up to and with the base of the next one come to this.
+pub record LinesComeTo (schema : SchemaValue) (s : ℕ) (gone : Option Gone) (held : List ℕ) (told : Gone) (next : List ℕ) (replayed : LogReplayed)
+    : Type 0 where
+  pub cut : ℕ
+  pub size : ℕ
+  pub at : HasBaseAt gone held told next cut size
+  pub comes : TellsHeld schema s gone (take (cut + size) held) replayed
 
 -- The part ends in front of the place that is told, or within the base that stands there in the next.
 pub record EndsBefore (gone : Option Gone) (held : List ℕ) (told : Gone) (next : List ℕ) : Type 0 where
@@ -88,10 +110,10 @@ HasNoBase next = (base : SummaryValue) → StartsWith next base → ⊥
 -- What a head tells is wrong of a front: it ends in no record; or so many records aren't in it; or a commit of it may not be gone by the
 -- horizon, or one that might be before.
 abbrev pub TellsWrongly : Option Gone → List ℕ → Gone → JointFault → Type 0
-TellsWrongly gone front told (BadLine number) = ⊥
-TellsWrongly gone front told (BreaksRule number) = ⊥
-TellsWrongly gone front told Short = ⊥
-TellsWrongly gone front told OtherBase = ⊥
+TellsWrongly _ _ _ (BadLine _) = ⊥
+TellsWrongly _ _ _ (BreaksRule _) = ⊥
+TellsWrongly _ _ _ Short = ⊥
+TellsWrongly _ _ _ OtherBase = ⊥
 TellsWrongly gone front told OtherBytes = (rs : List Record) × (left : List ℕ) × Begins front rs left × (left ≢ []) × HasNoFirst left
 TellsWrongly gone front told OtherRecords =
     (rs : List Record) × Begins front rs [] × (told.records ≢ records_told gone + length (plain rs))
@@ -105,8 +127,8 @@ HasWrongHead gone held told fault = (front : List ℕ) × IsFront gone held told
 -- Why they don't: the first line of the front that is no record, or breaks a rule, the base of the next included; or the part is too
 -- short; or has no such base there; or the head of the next tells wrongly.
 abbrev pub IsJointFault : SchemaValue → ℕ → Option Gone → List ℕ → Gone → List ℕ → JointFault → Type 0
-IsJointFault schema s gone held told next (BadLine number) = FrontComesTo schema s gone held (came.BadLine number)
-IsJointFault schema s gone held told next (BreaksRule number) = FrontComesTo schema s gone held (came.BreaksRule number)
+IsJointFault schema s gone held told next (BadLine number) = LinesComeTo schema s gone held told next (came.BadLine number)
+IsJointFault schema s gone held told next (BreaksRule number) = LinesComeTo schema s gone held told next (came.BreaksRule number)
 IsJointFault schema s gone held told next Short = EndsBefore gone held told next
 IsJointFault schema s gone held told next OtherBase = HasNoBase next ⊎ HasOtherBase gone held told next
 IsJointFault schema s gone held told next OtherBytes = (told.bytes ≤ bytes_told gone) ⊎ HasWrongHead gone held told OtherBytes
@@ -119,16 +141,7 @@ IsJointFault schema s gone held told next OtherHorizon = HasWrongHead gone held 
 abbrev pub HasBase : List ℕ → ℕ → Type 0
 HasBase bytes n = (base : SummaryValue) × (behind : List ℕ) × IsRecordAt bytes (summary_record base) behind × (n ≡ length (text (summary_record base)))
 
--- This line, so long, stands in the part at this place, which is the one that is told.
-pub record HasLineAt (gone : Option Gone) (held : List ℕ) (told : Gone) (line : List ℕ) (cut n : ℕ) : Type 0 where
-  pub front : List ℕ
-  pub left : List ℕ
-  pub held_is : held ≡ front ++ (line ++ left)
-  pub cut_is : cut ≡ length front
-  pub size : n ≡ length line
-  pub place : told.bytes ≡ bytes_told gone + cut
-
--- Another line stands there.
+-- Another line stands at the place that is told.
 pub record HasOtherLine (gone : Option Gone) (held : List ℕ) (told : Gone) (line : List ℕ) : Type 0 where
   pub front : List ℕ
   pub is_front : IsFront gone held told front
@@ -140,13 +153,6 @@ FindsLine gone held told line (found.At cut base) = HasLineAt gone held told lin
 FindsLine gone held told line found.Short = bytes_told gone + length held < told.bytes + length line
 FindsLine gone held told line found.OtherBase = HasOtherLine gone held told line
 FindsLine gone held told line found.OtherBytes = told.bytes ≤ bytes_told gone
-
--- The base of the next part stands in the part at this place.
-pub record HasBaseAt (gone : Option Gone) (held : List ℕ) (told : Gone) (next : List ℕ) (cut n : ℕ) : Type 0 where
-  pub base : SummaryValue
-  pub behind : List ℕ
-  pub next_is : IsRecordAt next (summary_record base) behind
-  pub there : HasLineAt gone held told (text (summary_record base)) cut n
 
 -- Where the base stands, or why it doesn't.
 abbrev pub FindsBase : Option Gone → List ℕ → Gone → List ℕ → Found → Type 0
@@ -163,11 +169,11 @@ HasLines schema s gone bytes = (rs : List Record) → IsLog bytes rs [] → AreF
 abbrev pub TellsLines : SchemaValue → ℕ → Option Gone → List ℕ → JointFault → Type 0
 TellsLines schema s gone bytes (BadLine number) = TellsHeld schema s gone bytes (came.BadLine number)
 TellsLines schema s gone bytes (BreaksRule number) = TellsHeld schema s gone bytes (came.BreaksRule number)
-TellsLines schema s gone bytes Short = ⊥
-TellsLines schema s gone bytes OtherBase = ⊥
-TellsLines schema s gone bytes OtherBytes = ⊥
-TellsLines schema s gone bytes OtherRecords = ⊥
-TellsLines schema s gone bytes OtherHorizon = ⊥
+TellsLines _ _ _ _ Short = ⊥
+TellsLines _ _ _ _ OtherBase = ⊥
+TellsLines _ _ _ _ OtherBytes = ⊥
+TellsLines _ _ _ _ OtherRecords = ⊥
+TellsLines _ _ _ _ OtherHorizon = ⊥
 
 -- The front is records, and what is told is right once they are gone too.
 abbrev pub HeadTells : Option Gone → List ℕ → Gone → Type 0

@@ -7,7 +7,8 @@ ghost use Rattle.kept_records.specs.Stands.{Lawful};
 ghost use Rattle.log_head.specs.declared.gone.Gone.{Gone as GoneValue};
 ghost use Rattle.log_archives.specs.Heads.{AreGone, AreTold, TellsMore};
 ghost use Rattle.log_archives.specs.Chains.{AreJoined, AreToldInTurn, PartValue};
-ghost use Rattle.log_archives.specs.Joints.{AreFrom};
+ghost use Rattle.log_archives.specs.declared.fault.JointFault.{JointFault as Fault};
+ghost use Rattle.log_archives.specs.Joints.{IsJointFault, Joins};
 
 /// Parts of which each joins with the next one, as `check_joint` finds it, are one log: their records
 /// joined, of each part up to where the next one begins, are lawful, if nothing is gone in front of the
@@ -19,6 +20,16 @@ pub fn joined_parts_are_one_log()
         (rs : List Kept) → AreJoined schema s None held parts rs → Lawful schema s rs }
     ensures told { (schema : SchemaValue) (s : ℕ) (held : List ℕ) (parts : List PartValue)
         (rs : List Kept) → AreJoined schema s None held parts rs → AreToldInTurn [] parts rs }
+{}
+
+/// Of two parts that join `check_joint` tells no fault.
+///
+/// Source: Balegas and others 2015 for the rights and the totals; this project for parts.
+pub fn faults_spare_joined_parts()
+    ensures spared { (schema : SchemaValue) (s : ℕ) (gone : Option GoneValue) (held : List ℕ)
+        (told : GoneValue) (next : List ℕ) (fault : Fault)
+        → IsJointFault schema s gone held told next fault → Joins schema s gone held told next
+        → ⊥ }
 {}
 
 /// Where what was told is right of the records that were gone, what is told once more are gone is right of

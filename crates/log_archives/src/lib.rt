@@ -14,4 +14,4 @@ mod survey;
 
 pub use fault::JointFault;
 pub use joint::check_joint;
-pub use laws::{joined_parts_are_one_log, joints_go_on};
+pub use laws::{faults_spare_joined_parts, joined_parts_are_one_log, joints_go_on};
