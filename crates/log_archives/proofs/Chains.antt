@@ -1,7 +1,6 @@
 -- Parts that join are one log.
-use Rattle.std.proofs.Common.{◌≡◌, ℕ, true, List, [], ◌∷◌, ◌++◌, Option, None, Some, refl, sym, ap, subst, ◌∙◌, append_assoc}
+use Rattle.std.proofs.Common.{◌≡◌, ℕ, true, List, [], ◌∷◌, ◌++◌, Option, None, Some, sym, ap, subst, ◌∙◌, append_assoc}
 use Rattle.std.specs.List.{flat_map, AllByRecursion}
-use Rattle.std.proofs.lemmas.List.{append-nil}
 use Rattle.field_bounds.specs.Schema.{SchemaValue}
 use Rattle.kept_records.specs.declared.record.Record.{Record}
 use Rattle.kept_records.specs.Lines.{IsRecordAt}
@@ -11,7 +10,6 @@ use Rattle.kept_records.specs.Summary.{SummaryValue, summary_record}
 use Rattle.kept_records.specs.Text.{text, IsRecord}
 use Rattle.kept_records.proofs.Pushes.{lawful_at}
 use Rattle.log_bases.specs.Bases.{IsPast}
-use Rattle.held_logs.specs.Behind.{AreLawfulBehind}
 use Rattle.held_logs.proofs.Firsts.{same_first}
 use Rattle.log_head.specs.declared.gone.Gone.{Gone}
 use Rattle.log_archives.specs.Chains.{AreJoined, AreToldInTurn, PartValue}
@@ -82,15 +80,13 @@ first_by : (schema : SchemaValue) (s : ℕ) (gone : Option Gone) (held : List �
 first_by schema s gone held p r rs tail joins next [] held_is each is =
     let at = next (sym is) in
     let one : summary_record joins.base ≡ r =
-    same_first p.held (summary_record joins.base) r joins.behind at.0 joins.next_is at.1 in
-    (
+    same_first p.held (summary_record joins.base) r joins.behind at.0 joins.next_is at.1 in (
       joins.left,
       subst (λ (x : Record). IsRecordAt held x joins.left) one (record { parts = held_is; fits = joins.next_is.fits }),
     )
 first_by schema s gone held p r rs tail joins next (q ∷ qs) held_is each is =
     let one : q ≡ r = cc in
-    let line : List ℕ = text (summary_record joins.base) in
-    (
+    let line : List ℕ = text (summary_record joins.base) in (
       flat_map text qs ++ (line ++ joins.left),
       subst (λ (x : Record). IsRecordAt held x (flat_map text qs ++ (line ++ joins.left))) one
           (record { parts = held_is ∙ append_assoc (text q) (flat_map text qs) (line ++ joins.left); fits = each.0 }),

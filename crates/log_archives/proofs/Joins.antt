@@ -1,15 +1,14 @@
 -- Two parts that join.
-use Rattle.std.proofs.Common.{◌≡◌, ◌⊎◌, ℕ, ◌+◌, ◌-◌, true, false, List, [], ◌∷◌, ◌++◌, length, take, drop, Option, None, Some, refl, sym, ap, subst, ◌∙◌, inl, inr, arith, append_assoc}
+use Rattle.std.proofs.Common.{◌≡◌, ℕ, ◌+◌, List, [], ◌∷◌, ◌++◌, length, take, drop, Option, None, Some, refl, sym, ap, subst, ◌∙◌, inr, arith, append_assoc}
 use Rattle.std.specs.Prelude.{Result, Ok, Err, IfOk, IfNone}
-use Rattle.std.specs.List.{flat_map, AllByRecursion}
+use Rattle.std.specs.List.{flat_map}
 use Rattle.std.proofs.Math.Seq.{take-append_seam}
 use Rattle.std.proofs.lemmas.List.{append-nil, length-append, take-append-drop}
 use Rattle.field_bounds.specs.Schema.{SchemaValue}
 use Rattle.kept_records.specs.declared.record.Record.{Record}
-use Rattle.kept_records.specs.Lines.{IsRecordAt, Begins}
 use Rattle.kept_records.specs.Logs.{IsLog}
 use Rattle.kept_records.specs.Stands.{Lawful}
-use Rattle.kept_records.specs.Summary.{SummaryValue, summary_record}
+use Rattle.kept_records.specs.Summary.{summary_record}
 use Rattle.kept_records.specs.Text.{text}
 use Rattle.kept_records.proofs.Lines.{all_push, flat_push}
 use Rattle.log_replay.specs.declared.standing.Standing.{Standing}
@@ -19,7 +18,7 @@ use Rattle.log_head.specs.declared.gone.Gone.{Gone}
 use Rattle.log_archives.specs.declared.fault.JointFault.{JointFault}
 use Rattle.log_archives.specs.declared.fault.JointFault.TheVariants.{BadLine, BreaksRule, Short, OtherBase, OtherBytes, OtherRecords, OtherHorizon}
 use Rattle.log_archives.specs.Heads.{bytes_told}
-use Rattle.log_archives.specs.Joints.{AreFrom, HasBaseAt, HasLines, HeadTells, IsFront, IsJointFault, Joins, TellsHeld, TellsLines, TellsWrongly}
+use Rattle.log_archives.specs.Joints.{HasBaseAt, HasLines, HeadTells, IsFront, IsJointFault, Joins, TellsHeld, TellsLines, TellsWrongly}
 
 -- lines that come to a standing are lawful
 pub has_lines : (schema : SchemaValue) (s : ℕ) (gone : Option Gone) (bytes : List ℕ) (standing : Standing) (n : ℕ)

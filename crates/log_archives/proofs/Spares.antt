@@ -1,5 +1,5 @@
 -- Parts that join have no fault.
-use Rattle.std.proofs.Common.{◌≡◌, ◌≢◌, ◌⊎◌, ℕ, ◌+◌, ◌<◌, true, false, Bool, List, [], ◌∷◌, ◌++◌, length, take, drop, Option, None, Some, refl, sym, ap, subst, ◌∙◌, inl, inr, arith, append_assoc, length-append}
+use Rattle.std.proofs.Common.{◌≡◌, ◌≢◌, ℕ, ◌+◌, true, false, List, [], ◌∷◌, ◌++◌, length, take, Option, None, Some, refl, sym, ap, subst, ◌∙◌, inl, inr, arith, length-append}
 use Rattle.std.specs.Prelude.{◌&&◌}
 use Rattle.std.specs.List.{flat_map, AllByRecursion}
 use Rattle.std.proofs.Math.Seq.{take-append_seam}
@@ -22,8 +22,8 @@ use Rattle.held_logs.proofs.Spared.{no_line, no_broken_rule}
 use Rattle.log_head.specs.declared.gone.Gone.{Gone}
 use Rattle.log_archives.specs.declared.fault.JointFault.{JointFault}
 use Rattle.log_archives.specs.declared.fault.JointFault.TheVariants.{BadLine, BreaksRule, Short, OtherBase, OtherBytes, OtherRecords, OtherHorizon}
-use Rattle.log_archives.specs.Heads.{all_may_go, bytes_told, goes_on, records_told}
-use Rattle.log_archives.specs.Joints.{AreFrom, HasBaseAt, HasWrongHead, IsFront, IsJointFault, Joins, LinesComeTo, TellsHeld, TellsWrongly}
+use Rattle.log_archives.specs.Heads.{all_may_go, goes_on, records_told}
+use Rattle.log_archives.specs.Joints.{AreFrom, HasBaseAt, IsFront, IsJointFault, Joins, TellsHeld, TellsWrongly}
 use Rattle.log_archives.proofs.Joins.{lines_are}
 
 -- ---- lines that are lawful

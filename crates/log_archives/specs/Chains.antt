@@ -4,7 +4,7 @@ use Rattle.field_bounds.specs.Schema.{SchemaValue}
 use Rattle.kept_records.specs.declared.record.Record.{Record}
 use Rattle.kept_records.specs.Logs.{IsLog}
 use Rattle.log_head.specs.declared.gone.Gone.{Gone}
-use Rattle.log_archives.specs.Heads.{AreGone, AreTold}
+use Rattle.log_archives.specs.Heads.{AreTold}
 use Rattle.log_archives.specs.Joints.{AreFrom, Joins}
 
 -- A part of which something is gone: what its head tells, and the bytes of its records.

@@ -1,4 +1,4 @@
-use Rattle.std.proofs.Common.{◌≡◌, ◌+◌, ◌-◌, ◌≤◌, ◌∙◌, length, ap, arith}
+use Rattle.std.proofs.Common.{◌≡◌, ◌+◌, ◌-◌, ◌≤◌, length, arith}
 use Rattle.log_archives.proofs.Finds.{other_line}
 use Rattle.log_archives.specs.Heads.{bytes_told}
 use Rattle.log_archives.proofs.finding.base_at.Goals as goal

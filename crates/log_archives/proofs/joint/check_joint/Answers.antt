@@ -1,5 +1,5 @@
 use Rattle.std.proofs.Common.{ℕ, List, subst}
-use Rattle.log_archives.specs.Joints.{IsJointFault, HasBaseAt, Joins}
+use Rattle.log_archives.specs.Joints.{IsJointFault, Joins}
 use Rattle.log_archives.proofs.Joins.{if_none, joins, of_lines}
 use Rattle.log_archives.proofs.joint.check_joint.Goals as goal
 

@@ -1,8 +1,8 @@
-use Rattle.std.proofs.Common.{◌-◌, ◌+◌, ◌&&◌, [], ℕ, Bool, List, length, refl, sym, ap, subst, ◌∙◌, arith, inl, inr, true}
+use Rattle.std.proofs.Common.{◌+◌, ◌&&◌, ℕ, List, length, sym, ap, subst, ◌∙◌, arith, true}
 use Rattle.kept_records.specs.declared.record.Record.{Record}
 use Rattle.kept_records.proofs.Counts.{lent_plain}
 use Rattle.kept_records.proofs.Cursors.{fewer}
-use Rattle.kept_records.proofs.Walks.{at_line, bad_at_line, end_at_line}
+use Rattle.kept_records.proofs.Walks.{at_line}
 use Rattle.log_archives.specs.Heads.{may_go}
 use Rattle.log_archives.proofs.Surveys.{Looked, looked_none, looked_more}
 use Rattle.log_archives.proofs.survey.survey.Goals as goal
