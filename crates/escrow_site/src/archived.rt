@@ -2,6 +2,7 @@
 
 ghost use Rattle.std.specs.Prelude.{◌≡◌};
 
+use crate::linked::folder_of;
 use file_medium::{FileFailed, LogFile};
 use file_swap::PutFault;
 use log_head::Gone;
@@ -33,7 +34,7 @@ fn keep_part(rt: &HostRuntime, paths: &Paths, gone: u64) -> io::Result<()> {
     }
     File::open(rt, paths.log.as_str())?.sync_all()?;
     fs::hard_link(rt, paths.log.as_str(), path.as_str())?;
-    File::open(rt, paths.folder.as_str())?.sync_all()
+    File::open(rt, folder_of(paths.log.as_str()))?.sync_all()
 }
 
 /// The log of a folder. Where its parts are kept, it stays as it was behind each shortening, as

@@ -7,6 +7,7 @@ mod checking;
 mod closing;
 mod creating;
 mod judging;
+mod linked;
 mod locking;
 mod serving;
 mod settling;

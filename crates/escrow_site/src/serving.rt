@@ -3,6 +3,7 @@
 use crate::archived::ArchivedLog;
 use crate::closing::{is_settled, settled_fault};
 use crate::creating::sync_site;
+use crate::linked::paths_of;
 use crate::locking::lock_log;
 use crate::tracing::trace_for;
 use crate::unsynced::UnsyncedFile;
@@ -251,7 +252,7 @@ fn serve_site(
 /// Serves the site of a folder over standard input and output, to the end of the input. Where it
 /// isn't synced, what is answered may be lost by a stop of the machine.
 pub(crate) fn serve_folder(rt: &HostRuntime, folder: &str, how: Serving) -> Result<(), Fault> {
-    let paths = Paths::new(rt.alloc(), folder)?;
+    let paths = paths_of(rt, folder)?;
     let identity = read_site(rt, rt.alloc(), &paths)?;
     serve_site(rt, &paths, &identity, how)
 }
