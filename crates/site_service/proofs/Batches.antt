@@ -21,10 +21,12 @@ use Rattle.site_service.proofs.Tracing.{told_none, told_more, kept_of, kept_fron
 
 -- nothing was answered
 answers_still : (shortens : Bool) (start now : ServiceValue) → now.served ≡ start.served → AnswersBy shortens start.served [] now.served []
-answers_still shortens start now same = subst (λ (s : Served). AnswersBy shortens start.served [] s []) (sym same) (answers_none shortens start.served)
+answers_still shortens start now same =
+    subst (λ (s : Served). AnswersBy shortens start.served [] s []) (sym same) (answers_none shortens start.served)
 
 -- what waited at first is let out, and nothing was read
-pub serves_none : (shortens : Bool) (from before after : Option (List ℕ)) (trace : TraceValue) (start now : ServiceValue) → now.served ≡ start.served
+pub serves_none : (shortens : Bool) (from before after : Option (List ℕ)) (trace : TraceValue) (start now : ServiceValue)
+    → now.served ≡ start.served
     → LetsOut before after start now → ServesPart shortens from from before after trace trace start now [] 0
 serves_none shortens from before after trace start now same out = record {
   serves = record {
@@ -42,7 +44,8 @@ serves_none shortens from before after trace start now same out = record {
 }
 
 -- what was let out couldn't be written whole
-pub stops_first : (shortens : Bool) (from before after : Option (List ℕ)) (trace : TraceValue) (start now : ServiceValue) → now.served ≡ start.served
+pub stops_first : (shortens : Bool) (from before after : Option (List ℕ)) (trace : TraceValue) (start now : ServiceValue)
+    → now.served ≡ start.served
     → IsSettled now → AppendsPrefix before after start.waiting → Stops shortens from from before after trace trace start now faults.Write
 stops_first shortens from before after trace start now same settled front = record {
   front = [];
@@ -67,8 +70,10 @@ prefix_after before middle after written out wrote front = (
 )
 
 -- A fault in front of which all batches were let out: what was read since is the back.
-pub stops_behind : (shortens : Bool) (from mid to before after : Option (List ℕ)) (trace half traced : TraceValue) (start now later : ServiceValue)
-    (line piece : List ℕ) (reads : ℕ) (part : ServesPart shortens from mid before after trace half start now line reads) → Consumes mid to piece
+pub stops_behind : (shortens : Bool) (from mid to before after : Option (List ℕ)) (trace half traced : TraceValue)
+    (start now later : ServiceValue)
+    (line piece : List ℕ) (reads : ℕ) (part : ServesPart shortens from mid before after trace half start now line reads)
+    → Consumes mid to piece
     → later.safe ≡ now.safe → HasKept trace traced part.serves.text → (fault : ServeFault)
     → IsOutAt fault before after (start.waiting ++ part.serves.text) → IsLongAt fault part.serves.read
     → Stops shortens from to before after trace traced start later fault
@@ -88,7 +93,8 @@ stops_behind shortens from mid to before after trace half traced start now later
     }
 
 -- no byte was read since
-pub stops_kept : (shortens : Bool) (from mid to before after : Option (List ℕ)) (trace traced : TraceValue) (start now : ServiceValue) (line : List ℕ)
+pub stops_kept : (shortens : Bool) (from mid to before after : Option (List ℕ)) (trace traced : TraceValue) (start now : ServiceValue)
+    (line : List ℕ)
     (reads : ℕ) → ServesPart shortens from mid before after trace traced start now line reads → Keeps mid to
     → Stops shortens from to before after trace traced start now faults.Read
 stops_kept shortens from mid to before after trace traced start now line reads part keeps =
@@ -106,7 +112,8 @@ stops_kept shortens from mid to before after trace traced start now line reads p
     }
 
 -- the end of the input
-pub serves_all : (shortens : Bool) (from mid to before after : Option (List ℕ)) (trace traced : TraceValue) (start now : ServiceValue) (line : List ℕ)
+pub serves_all : (shortens : Bool) (from mid to before after : Option (List ℕ)) (trace traced : TraceValue) (start now : ServiceValue)
+    (line : List ℕ)
     (reads : ℕ) → ServesPart shortens from mid before after trace traced start now line reads → Consumes mid to []
     → Serves shortens from to before after trace traced start now
 serves_all shortens from mid to before after trace traced start now line reads part none =
@@ -123,8 +130,10 @@ serves_all shortens from mid to before after trace traced start now line reads p
 
 -- ---- a batch
 
-module _ (shortens : Bool) (from mid to before half after : Option (List ℕ)) (trace earlier traced : TraceValue) (start now answered : ServiceValue)
-    (line piece : List ℕ) (reads : ℕ) (part : ServesPart shortens from mid before half trace earlier start now line reads) (more : Consumes mid to piece)
+module _ (shortens : Bool) (from mid to before half after : Option (List ℕ)) (trace earlier traced : TraceValue)
+    (start now answered : ServiceValue)
+    (line piece : List ℕ) (reads : ℕ) (part : ServesPart shortens from mid before half trace earlier start now line reads)
+    (more : Consumes mid to piece)
     (all : HasAnsweredAll (whole_lines_after (last_part part.serves.read) piece) now answered)
     (told : HasTold earlier traced answered.waiting) where
   lines_read : whole_lines (part.serves.read ++ piece) ≡ whole_lines part.serves.read ++ whole_lines_after (last_part part.serves.read) piece
@@ -149,7 +158,8 @@ module _ (shortens : Bool) (from mid to before half after : Option (List ℕ)) (
   texts = ap (λ (t : List ℕ). (start.waiting ++ part.serves.text) ++ t) waits ∙ append_assoc start.waiting part.serves.text all.text
 
   -- it is let out
-  pub serves_batch : 0 < length piece → (later : ServiceValue) (left : List ℕ) → later.served ≡ answered.served → LetsOut half after answered later
+  pub serves_batch : 0 < length piece → (later : ServiceValue) (left : List ℕ) → later.served ≡ answered.served
+      → LetsOut half after answered later
       → IsKeptOf (last_part_after (last_part part.serves.read) piece) left
       → ServesPart shortens from to before after trace traced start later left (reads + 1)
   serves_batch brought later left same out keeps = record {
@@ -157,8 +167,9 @@ module _ (shortens : Bool) (from mid to before half after : Option (List ℕ)) (
       read = part.serves.read ++ piece;
       consumed = Consumes-trans from mid to part.serves.read piece part.serves.consumed more;
       text = part.serves.text ++ all.text;
-      answers = subst (λ s. AnswersBy shortens start.served (whole_lines (part.serves.read ++ piece)) s (part.serves.text ++ all.text)) (sym same)
-          answers_read;
+      answers =
+          subst (λ s. AnswersBy shortens start.served (whole_lines (part.serves.read ++ piece)) s (part.serves.text ++ all.text))
+          (sym same) answers_read;
       written = subst (Appends before after) texts
           (Appends-trans before half after (start.waiting ++ part.serves.text) answered.waiting part.serves.written out.out);
       waiting = out.waiting;
@@ -179,8 +190,9 @@ module _ (shortens : Bool) (from mid to before half after : Option (List ℕ)) (
         (Consumes-trans from mid to part.serves.read piece part.serves.consumed more);
     last = later.served;
     text = part.serves.text ++ all.text;
-    answers = subst (λ s. AnswersBy shortens start.served (whole_lines (part.serves.read ++ piece)) s (part.serves.text ++ all.text)) (sym same)
-        answers_read;
+    answers =
+        subst (λ s. AnswersBy shortens start.served (whole_lines (part.serves.read ++ piece)) s (part.serves.text ++ all.text))
+        (sym same) answers_read;
     out = subst (AppendsPrefix before after) texts
         (prefix_after before half after (start.waiting ++ part.serves.text) answered.waiting part.serves.written front);
     safe = safe_at shortens faults.Write later.served later.safe (settled_text later settled);
@@ -189,7 +201,8 @@ module _ (shortens : Bool) (from mid to before half after : Option (List ℕ)) (
   }
 
   -- the log failed behind the trace
-  pub stops_device : (later : ServiceValue) → later.safe ≡ now.safe → half ≡ after → Stops shortens from to before after trace traced start later faults.Device
+  pub stops_device : (later : ServiceValue) → later.safe ≡ now.safe → half ≡ after
+      → Stops shortens from to before after trace traced start later faults.Device
   stops_device later same unwritten =
       subst (λ (w : Option (List ℕ)). Stops shortens from to before w trace traced start later faults.Device) unwritten
       (stops_behind shortens from mid to before half trace earlier traced start now later line piece reads part more same
@@ -198,8 +211,10 @@ module _ (shortens : Bool) (from mid to before half after : Option (List ℕ)) (
 -- ---- a fault of a release
 
 -- in the middle of a serving
-pub stops_release : (shortens : Bool) (from mid to before half after : Option (List ℕ)) (trace earlier traced : TraceValue) (start now answered later : ServiceValue)
-    (line piece : List ℕ) (reads : ℕ) (part : ServesPart shortens from mid before half trace earlier start now line reads) → Consumes mid to piece
+pub stops_release : (shortens : Bool) (from mid to before half after : Option (List ℕ)) (trace earlier traced : TraceValue)
+    (start now answered later : ServiceValue)
+    (line piece : List ℕ) (reads : ℕ) (part : ServesPart shortens from mid before half trace earlier start now line reads)
+    → Consumes mid to piece
     → HasAnsweredAll (whole_lines_after (last_part part.serves.read) piece) now answered → HasTold earlier traced answered.waiting
     → KeepsLog now answered → later.served ≡ answered.served → (fault : ServeFault) → HoldsBack half after answered later fault
     → Stops shortens from to before after trace traced start later fault
@@ -213,7 +228,8 @@ stops_release shortens from mid to before half after trace earlier traced start 
 stops_release shortens from mid to before half after trace earlier traced start now answered later line piece reads part more all told keeps same faults.NoMemory held = absurd held
 
 -- before the first read
-pub stops_at_first : (shortens : Bool) (from before after : Option (List ℕ)) (trace : TraceValue) (start now : ServiceValue) → now.served ≡ start.served
+pub stops_at_first : (shortens : Bool) (from before after : Option (List ℕ)) (trace : TraceValue) (start now : ServiceValue)
+    → now.served ≡ start.served
     → (fault : ServeFault) → HoldsBack before after start now fault
     → StopsAtOnce from from before after trace trace start now fault ⊎ Stops shortens from from before after trace trace start now fault
 stops_at_first shortens from before after trace start now same faults.Device held =
@@ -236,7 +252,8 @@ module _ (from to before after : Option (List ℕ)) (trace traced : TraceValue) 
       read = part.serves.read;
       consumed = part.serves.consumed;
       text = part.serves.text;
-      answers = answers_shorter start.served now.served later.served (whole_lines part.serves.read) part.serves.text part.serves.answers goes;
+      answers = answers_shorter start.served now.served later.served (whole_lines part.serves.read) part.serves.text part.serves.answers
+          goes;
       written = part.serves.written;
       waiting = same ∙ part.serves.waiting;
       settled = settled;

@@ -49,8 +49,8 @@ lines_more batches lines =
     ∙ sym (flat_map-append (λ (batch : List (List ℕ)). batch) batches (lines ∷ []))
 
 -- lines more are answered
-pub answers_more : (shortens : Bool) (old mid new : Served) (xs ys : List (List ℕ)) (text more : List ℕ) → AnswersBy shortens old xs mid text
-    → AnswersLines mid ys new more → AnswersBy shortens old (xs ++ ys) new (text ++ more)
+pub answers_more : (shortens : Bool) (old mid new : Served) (xs ys : List (List ℕ)) (text more : List ℕ)
+    → AnswersBy shortens old xs mid text → AnswersLines mid ys new more → AnswersBy shortens old (xs ++ ys) new (text ++ more)
 answers_more false old mid new xs ys text more first second = answers_after old mid new xs ys text more first second
 answers_more true old mid new xs ys text more first second = record {
   batches = first.batches ++ ys ∷ [];

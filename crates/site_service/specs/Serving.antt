@@ -18,7 +18,8 @@ IsKeptOf part kept = (kept ≡ part) ⊎ ((max_line < length kept) × (max_line 
 -- The reader has lost what was read. What waited at first was written, and behind it exactly the text of the answers to the whole
 -- lines that were read, by which text the trace has grown too; none waits, and the record of each is safe, unless it was let go. Nothing
 -- is let go but by a service that shortens its log.
-pub record Serves (shortens : Bool) (from to before after : Option (List ℕ)) (trace traced : TraceValue) (start now : ServiceValue) : Type 0 where
+pub record Serves (shortens : Bool) (from to before after : Option (List ℕ)) (trace traced : TraceValue) (start now : ServiceValue)
+    : Type 0 where
   pub read : List ℕ
   pub consumed : Consumes from to read
   pub text : List ℕ

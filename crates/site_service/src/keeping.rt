@@ -18,18 +18,18 @@ use script_input::{Sink, Source};
 use short_log::ShortLog;
 use std::alloc::Global;
 
-/// The bytes that about a thousand records take: as far apart are the summaries of a log, in front of
-/// which alone it can be let go.
+/// The bytes that about a thousand records take: so far apart are the summaries of a log, and only in
+/// front of one can it be let go.
 const APART: usize = 16_384;
 
-// When a log is looked at next: once so many bytes of it are held, where so many are to stay. Each look
-// that shortens it makes a copy of what stays, so the log grows by twice that before the next; and by
-// the distance of two summaries, so that the next may find one.
+// When a log is looked at next: once so many bytes of it are held, where so many are to stay. A look
+// that shortens it makes a copy of what stays, so the log grows by twice that before the next; and
+// by the distance of two summaries, so that the next may find one.
 //
-// A log that was long at the start is looked at soon, however often runs are started: none grows beyond
-// 8 times what is to stay and that distance. One that was short is looked at once it has grown by as
-// much as behind a look: until then a commit that a stop left unanswered is told yes or no. And a look
-// that was for nothing, as where the disk is full, isn't made again at each batch.
+// A log that was long at the start is looked at soon, however often runs are started: none grows
+// beyond 8 times what is to stay and that distance. One that was short is looked at once it has grown
+// by as much as behind a look: until then a commit that a stop left unanswered is told yes or no. And
+// a look that was for nothing, as where the disk is full, isn't made again at each batch.
 #[derive(Clone, Copy)]
 struct Due {
     keep: usize,
@@ -171,19 +171,19 @@ fn keep_batches<F: ShortLog, T: LogFile, R: Source, W: Sink>(
 }
 
 /// Serves an input as `serve` does, and behind the release of a batch shortens the log where that is
-/// due, as `Service::shorten` does: what stays is a summary and at least `keep` bytes behind it. So the
-/// answers are those of `serve`, but to questions for commits and keys that were let go, which are told
-/// as forgotten. Of a transaction that is open, and hasn't committed, nothing is ever forgotten.
+/// due, as `Service::shorten` does: what stays is a summary and at least `keep` bytes behind it. So
+/// the answers are those of `serve`, but those that hang on a commit or a key that was let go, which
+/// is forgotten. Of a transaction that is open, and hasn't committed, nothing is ever forgotten.
 ///
-/// The log is looked at once it holds twice `keep` and 16,384 bytes more than behind the last look, or
-/// than at the start, of which no more counts than 6 times `keep`: never before the first batch. A look
-/// that can't shorten it, since no summary stands so that it could, memory is wanting, or the new log is
-/// refused, leaves it as it is, and the serving goes on.
+/// The log is looked at once it holds twice `keep` and 16,384 bytes more than behind the last look,
+/// or than at the start, of which no more counts than 6 times `keep`: never before the first batch. A
+/// look that can't shorten it, since no summary stands so that it could, memory is wanting, or the
+/// new log is refused, leaves it as it is, and the serving goes on.
 ///
-/// The faults are those of `serve`, and leave what they leave there. `Device` also where it isn't known
-/// whether a shorter log has taken the place of the log: each is whole, all answers were let out, and
-/// nothing is read or written behind that. Since a new log takes the place of the old one, nothing is
-/// said of cuts of the log, as it is for `serve`.
+/// The faults are those of `serve`, and leave what they leave there. `Device` comes also where it
+/// isn't known whether a shorter log has taken the place of the log: each is whole, all answers were
+/// let out, and nothing is read or written behind that. Since a new log takes the place of the old
+/// one, nothing is said of cuts of the log, as it is for `serve`.
 ///
 /// Costs what `serve` does; and where the log is shortened twice the memory of what stays, a look at
 /// each record, and a write of what stays with two syncs. Source: this project.
@@ -205,8 +205,9 @@ pub fn serve_keeping<F: ShortLog, T: LogFile, R: Source, W: Sink>(
     // That is so only after a read that had room and gave nothing.
     ensures end { OnOk result (GaveNothing (R.last reader.new)) }
 
-    // At a fault what was written is the text of the answers to the whole lines of a front, which is
-    // safe in the trace. The input is too long only where the front has 2^64 - 1 bytes at least.
+    // At a fault what was written is the text of the answers to the whole lines of a front, which
+    // is safe in the trace; at a device fault the log may be a shorter one. The input is too long
+    // only where the front has 2^64 - 1 bytes at least.
     ensures err { IfErr result (λ fault. StopsAtOnce (R.bytes reader.old) (R.bytes reader.new)
         (W.bytes writer.old) (W.bytes writer.new) (trace_of (T.bytes trace.old) (T.safe trace.old))
         (trace_of (T.bytes trace.new) (T.safe trace.new)) service.old service.new fault

@@ -5,8 +5,8 @@ use super::*;
 /// An open transaction, in front of the commits.
 const FIRST_OPEN: &str = "0 begin\n0 escrow 1.1 stock -1\n";
 
-/// How many commits stand behind it, 1.2 to 1.4001. With the restart and a commit of 1.1 the log has
-/// 4,002 records, and behind each thousand a summary.
+/// How many commits stand behind it, 1.2 to 1.4001. With the restart and the commit of 1.1 the log
+/// has 4,002 records, and behind each thousand a summary.
 const COMMITS: u32 = 4000;
 
 /// What is asked behind them: the answers are those of a log that lets go of nothing.
@@ -93,7 +93,7 @@ fn copy_of(rt: &impl Abort, alloc: Global, gone: &Gone) -> Gone {
     }
 }
 
-/// Site 0, served over the log in these files, of which something may be gone, and told to this trace.
+/// Site 0, served over the log in these files, of which something may be gone, and told to a trace.
 fn open_either<'a, 'b, T: LogFile>(
     rt: &impl Abort,
     alloc: Global,
@@ -123,7 +123,24 @@ struct Outcome {
     left: usize,
 }
 
-/// Serves an input over the log in these files, which is shortened where bytes to keep are told.
+/// Serves an input, and shortens the log where bytes to keep are told. Tells how much was left unread.
+fn serve_either<F: LogFile + ShortLog, T: LogFile>(
+    alloc: Global,
+    service: &mut Service<F>,
+    trace: &mut T,
+    input: &str,
+    keep: Option<usize>,
+) -> (Told, usize) {
+    let mut reader = Watched::new(input.as_bytes());
+    let mut writer = Watched::new(Vec::new(alloc));
+    let end = match keep {
+        Some(keep) => serve_keeping(alloc, service, trace, &mut reader, &mut writer, keep),
+        None => serve(alloc, service, trace, &mut reader, &mut writer),
+    };
+    ((end, writer.into_inner()), reader.into_inner().len())
+}
+
+/// The same over the log in these files.
 fn run(
     rt: &impl Abort,
     alloc: Global,
@@ -134,23 +151,11 @@ fn run(
     let identity = identity(rt, alloc);
     let mut trace = empty_file(alloc);
     let mut service = open_either(rt, alloc, &identity, files, &mut trace);
-    let mut reader = Watched::new(input.as_bytes());
-    let mut writer = Watched::new(Vec::new(alloc));
-    let end = match keep {
-        Some(keep) => serve_keeping(
-            alloc,
-            &mut service,
-            &mut trace,
-            &mut reader,
-            &mut writer,
-            keep,
-        ),
-        None => serve(alloc, &mut service, &mut trace, &mut reader, &mut writer),
-    };
+    let (told, left) = serve_either(alloc, &mut service, &mut trace, input, keep);
     Outcome {
-        told: (end, writer.into_inner()),
+        told,
         traced: Vec::from_slice(alloc, trace.safe()).expect(rt, "memory"),
-        left: reader.into_inner().len(),
+        left,
     }
 }
 
@@ -181,8 +186,8 @@ fn assert_answered(rt: &impl Abort, outcome: &Outcome, answers: &[u8]) {
     assert_eq!(rt; outcome.left, 0);
 }
 
-/// What is told behind a start over the log that is left: what is gone is forgotten, and all else is
-/// as it was.
+/// What is told behind a start over the log that is left: what is gone is forgotten, and all else
+/// is as it was.
 const STARTED: [(&str, &str); 7] = [
     ("kept 1.1", "kept 1.1 -> yes"),
     ("kept 1.2", "kept 1.2 -> forgotten"),
@@ -214,9 +219,10 @@ fn a_log_stays_short_while_it_is_served(rt: HostRuntime) {
     assert_starts(&rt, alloc, &mut short);
 }
 
-/// What is served, how many bytes are to stay, and whether the log is shortened, which holds some 56,000
-/// bytes at the start. The first look comes behind a batch, which is what one read brings. It is due at 8
-/// times what is to stay and 16,384 bytes, or, where that is more than is held, never here.
+/// What is served, how many bytes are to stay, and whether the log is shortened, which holds some
+/// 56,000 bytes at the start. The first look comes behind a batch, which is what one read brings. It
+/// is due at 8 times what is to stay and 16,384 bytes, or, where that is more than is held, never
+/// here.
 const DUE: [(&str, usize, bool); 6] = [
     ("", 0, false),
     ("0 share stock", 0, true),
@@ -275,8 +281,8 @@ fn count_commits(rt: &impl Abort, answers: &[u8]) -> usize {
         .count()
 }
 
-/// A run ended where the file failed behind a batch: its answers were let out, all of them, and nothing
-/// was read behind it.
+/// A run ended where the file failed behind a batch: its answers were let out, all of them, and
+/// nothing was read behind it.
 fn assert_stopped(rt: &impl Abort, outcome: &Outcome, input: &[u8], plain: &[u8]) {
     let answers = outcome.told.1.as_slice();
     assert_eq!(rt; outcome.told.0, Err(ServeFault::Device));
@@ -287,8 +293,8 @@ fn assert_stopped(rt: &impl Abort, outcome: &Outcome, input: &[u8], plain: &[u8]
     assert!(rt; outcome.traced.as_slice() == answers);
 }
 
-/// A start over the log that is left, in which so many commits were answered: none is told as no, and
-/// the last is told as yes.
+/// A start over the log that is left, in which so many commits were answered: none is told as no,
+/// and the last is told as yes.
 fn assert_keeps(rt: &impl Abort, alloc: Global, files: &mut TwoFiles, commits: usize) {
     let identity = identity(rt, alloc);
     let mut service = open_either(rt, alloc, &identity, files, &mut NoTrace);
