@@ -5,21 +5,12 @@ ghost use Rattle.std.specs.Prelude.{◌≡◌};
 use crate::linked::folder_of;
 use file_medium::{FileFailed, LogFile};
 use file_swap::PutFault;
+use folder_archives::part_path;
 use log_head::Gone;
 use short_log::ShortLog;
-use std::alloc::{AllocError, Global};
 use std::fs::{self, File};
 use std::io::{self, ErrorKind};
 use world_folders::Paths;
-
-/// The path of the part that was the log before these bytes were gone.
-pub(crate) fn part_path(alloc: Global, paths: &Paths, gone: u64) -> Result<String, AllocError> {
-    let mut path = String::from_str(alloc, paths.log.as_str())?;
-    match write!(path, ".{gone}") {
-        Ok(()) => Ok(path),
-        Err(_) => Err(AllocError),
-    }
-}
 
 // Gives the file of the log another name beside its own, safe from a stop of the machine. One that had
 // it is removed first: a stop between this and the shortening has left it.

@@ -34,7 +34,7 @@ fn carry_out(rt: &HostRuntime, task: &Task) -> Result<u8, Fault> {
         } => creating::create(rt, folder.as_str(), schema.as_str(), *site, name),
         Task::Serve { folder, how } => serving::serve_folder(rt, folder.as_str(), *how),
         Task::Show { folder } => showing::show(rt, folder.as_str()),
-        Task::Verify { folder } => verifying::verify(rt, folder.as_str()),
+        Task::Verify { folder } => return verifying::verify(rt, folder.as_str()),
         Task::Check { folders } => checking::check(rt, folders.as_slice()),
         Task::Settle { folders, how } => settling::settle(rt, folders.as_slice(), *how),
         Task::Weave { folders } => weaving::weave_folders(rt, folders.as_slice()),

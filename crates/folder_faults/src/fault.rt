@@ -1,6 +1,5 @@
 //! Why a task ends before it is done, in words that name the file and say what to do.
 
-use crate::parts::PartWhy;
 use field_bounds::SchemaFault;
 use file_medium::{FileCall, FileFault};
 use std::alloc::{AllocError, AllocFailed, Global};
@@ -61,9 +60,6 @@ pub enum Why {
     OtherWorld(String),
     #[error("is of site {0}, as {1} is: name one folder for each site")]
     SameSite(u16, String),
-    /// Of a log that let go of its front, or of a part that was kept of it.
-    #[error("{0}")]
-    Part(PartWhy),
     /// Of the log of the site that gave.
     #[error("site {to} accepted {accepted} {kind} on {field} from site {from}, which gave {given}: this log is older than what it gave: put its newest log back")]
     AcceptedMore {

@@ -3,9 +3,7 @@
 #![tactic(auto)]
 
 mod fault;
-mod parts;
 
 pub use fault::{
     Fault, Why, asked, device_fault, failed, header_words, not_closed, refused, unread, with_call,
 };
-pub use parts::PartWhy;
