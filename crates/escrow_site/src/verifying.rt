@@ -1,12 +1,13 @@
 //! The command `verify`.
 
+use crate::linked::paths_of;
 use folder_archives::{Totals, VerifyFault, verify_folder};
 use folder_faults::Fault;
-use world_folders::{Paths, read_site};
+use world_folders::read_site;
 
 // How much the log of a folder has in all, once it was verified.
 fn totals_of(rt: &HostRuntime, folder: &str) -> Result<Totals, VerifyFault> {
-    let paths = Paths::new(rt.alloc(), folder)?;
+    let paths = paths_of(rt, folder)?;
     let identity = read_site(rt, rt.alloc(), &paths)?;
     verify_folder(rt, rt.alloc(), &paths, &identity)
 }
