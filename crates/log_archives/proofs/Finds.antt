@@ -11,8 +11,8 @@ use Rattle.kept_records.specs.Text.{text}
 use Rattle.held_logs.specs.Behind.{HasNoFirst}
 use Rattle.held_logs.proofs.Firsts.{none_first, same_first}
 use Rattle.log_head.specs.declared.gone.Gone.{Gone}
-use Rattle.log_archives.specs.declared.finding.Found.{Found}
-use Rattle.log_archives.specs.declared.finding.Found.TheVariants as found
+use Rattle.log_archives.specs.declared.finding.BaseFound.{BaseFound}
+use Rattle.log_archives.specs.declared.finding.BaseFound.TheVariants as found
 use Rattle.log_archives.specs.Heads.{bytes_told}
 use Rattle.log_archives.specs.Joints.{FindsBase, FindsLine, HasBase, HasNoBase, HasOtherLine}
 
@@ -52,7 +52,7 @@ base_line next behind base n at size =
     ∙ take-append_seam (text (summary_record base)) behind
 
 -- where it stands
-pub finds_base : (gone : Option Gone) (held : List ℕ) (told : Gone) (next behind : List ℕ) (base : SummaryValue) (line : List ℕ) (answer : Found)
+pub finds_base : (gone : Option Gone) (held : List ℕ) (told : Gone) (next behind : List ℕ) (base : SummaryValue) (line : List ℕ) (answer : BaseFound)
     → IsRecordAt next (summary_record base) behind → line ≡ text (summary_record base) → FindsLine gone held told line answer
     → FindsBase gone held told next answer
 finds_base gone held told next behind base line (found.At cut n) at same finds = record {

@@ -16,8 +16,8 @@ use Rattle.folder_logs.specs.First.{TellsFirst}
 use Rattle.held_logs.specs.Behind.{AreLawfulBehind, HasNoFirst, StartsWith, TellsBehind}
 use Rattle.log_archives.specs.declared.fault.JointFault.{JointFault}
 use Rattle.log_archives.specs.declared.fault.JointFault.TheVariants.{BadLine, BreaksRule, Short, OtherBase, OtherBytes, OtherRecords, OtherHorizon}
-use Rattle.log_archives.specs.declared.finding.Found.{Found}
-use Rattle.log_archives.specs.declared.finding.Found.TheVariants as found
+use Rattle.log_archives.specs.declared.finding.BaseFound.{BaseFound}
+use Rattle.log_archives.specs.declared.finding.BaseFound.TheVariants as found
 use Rattle.log_archives.specs.declared.survey.Seen.{Seen}
 use Rattle.log_archives.specs.Heads.{TellsMore, all_may_go, bytes_told, goes_on, records_told}
 
@@ -114,7 +114,7 @@ TellsWrongly _ _ _ (BadLine _) = ⊥
 TellsWrongly _ _ _ (BreaksRule _) = ⊥
 TellsWrongly _ _ _ Short = ⊥
 TellsWrongly _ _ _ OtherBase = ⊥
-TellsWrongly gone front told OtherBytes = (rs : List Record) × (left : List ℕ) × Begins front rs left × (left ≢ []) × HasNoFirst left
+TellsWrongly _ front _ OtherBytes = (rs : List Record) × (left : List ℕ) × Begins front rs left × (left ≢ []) × HasNoFirst left
 TellsWrongly gone front told OtherRecords =
     (rs : List Record) × Begins front rs [] × (told.records ≢ records_told gone + length (plain rs))
 TellsWrongly gone front told OtherHorizon =
@@ -148,14 +148,14 @@ pub record HasOtherLine (gone : Option Gone) (held : List ℕ) (told : Gone) (li
   pub none : (left : List ℕ) → is_front.left ≢ line ++ left
 
 -- Where a line stands, or why it doesn't.
-abbrev pub FindsLine : Option Gone → List ℕ → Gone → List ℕ → Found → Type 0
+abbrev pub FindsLine : Option Gone → List ℕ → Gone → List ℕ → BaseFound → Type 0
 FindsLine gone held told line (found.At cut base) = HasLineAt gone held told line cut base
 FindsLine gone held told line found.Short = bytes_told gone + length held < told.bytes + length line
 FindsLine gone held told line found.OtherBase = HasOtherLine gone held told line
 FindsLine gone held told line found.OtherBytes = told.bytes ≤ bytes_told gone
 
 -- Where the base stands, or why it doesn't.
-abbrev pub FindsBase : Option Gone → List ℕ → Gone → List ℕ → Found → Type 0
+abbrev pub FindsBase : Option Gone → List ℕ → Gone → List ℕ → BaseFound → Type 0
 FindsBase gone held told next (found.At cut base) = HasBaseAt gone held told next cut base
 FindsBase gone held told next found.Short = EndsBefore gone held told next
 FindsBase gone held told next found.OtherBase = HasNoBase next ⊎ HasOtherBase gone held told next

@@ -9,7 +9,7 @@ use log_head::Gone;
 use std::alloc::{AllocError, Global};
 
 /// Where the base of the next part stands in a part.
-pub(crate) enum Found {
+pub(crate) enum BaseFound {
     /// At this place, and it has so many bytes.
     At { cut: usize, base: usize },
     /// The part ends in front of it, or within it.
@@ -46,27 +46,27 @@ fn behind<'a>(bytes: &'a [u8], line: &[u8]) -> Option<&'a [u8]>
 }
 
 // Whether a base stands at the place that is told.
-fn base_at(gone: &Option<Gone>, held: &[u8], told: &Gone, base: &[u8]) -> Found
+fn base_at(gone: &Option<Gone>, held: &[u8], told: &Gone, base: &[u8]) -> BaseFound
     ensures found { FindsLine gone.now held.now told.now base.now result }
 {
     let before = bytes_told(gone);
     if told.bytes <= before {
-        return Found::OtherBytes;
+        return BaseFound::OtherBytes;
     }
     let cut = (told.bytes - before) as usize;
     if held.len() < cut {
-        return Found::Short;
+        return BaseFound::Short;
     }
     let (_front, left) = held.split_at(cut);
     if left.len() < base.len() {
-        return Found::Short;
+        return BaseFound::Short;
     }
     match behind(left, base) {
-        Some(_rest) => Found::At {
+        Some(_rest) => BaseFound::At {
             cut,
             base: base.len(),
         },
-        None => Found::OtherBase,
+        None => BaseFound::OtherBase,
     }
 }
 
@@ -78,11 +78,11 @@ pub(crate) fn find_base(
     held: &[u8],
     told: &Gone,
     next: &[u8],
-) -> Result<Found, AllocError>
+) -> Result<BaseFound, AllocError>
     ensures found { IfOk result (FindsBase gone.now held.now told.now next.now) }
 {
     match base_length(alloc, next)? {
         Some(base) => Ok(base_at(gone, held, told, &next[..base])),
-        None => Ok(Found::OtherBase),
+        None => Ok(BaseFound::OtherBase),
     }
 }

@@ -6,7 +6,7 @@ ghost use Rattle.log_archives.specs.Heads.{bytes_told, goes_on, records_told};
 ghost use Rattle.log_archives.specs.Joints.{HasLines, HeadTells, IsJointFault, Joins, TellsLines, TellsWrongly};
 
 use crate::fault::JointFault;
-use crate::finding::{Found, find_base};
+use crate::finding::{BaseFound, find_base};
 use crate::reach::{goes_on, records_told};
 use crate::survey::survey;
 use field_bounds::{Schema, SiteNo};
@@ -108,10 +108,10 @@ pub fn check_joint(
 {
     let held = part.records.as_slice();
     let (cut, base) = match find_base(alloc, &part.gone, held, told, next)? {
-        Found::At { cut, base } => (cut, base),
-        Found::Short => return Ok(Some(JointFault::Short)),
-        Found::OtherBase => return Ok(Some(JointFault::OtherBase)),
-        Found::OtherBytes => return Ok(Some(JointFault::OtherBytes)),
+        BaseFound::At { cut, base } => (cut, base),
+        BaseFound::Short => return Ok(Some(JointFault::Short)),
+        BaseFound::OtherBase => return Ok(Some(JointFault::OtherBase)),
+        BaseFound::OtherBytes => return Ok(Some(JointFault::OtherBytes)),
     };
     let lines = &held[..cut + base];
     if let Some(fault) = why_unlawful(alloc, schema, site, &part.gone, lines)? {
