@@ -73,10 +73,18 @@ def passes(packages: str, *tests: str) -> bool:
     return ran.returncode == 0
 
 
-def pass_unmade(edits: list[Edit]) -> bool:
-    """Whether the tests of all these pass without any mistake."""
+def by_module(edits: list[Edit]) -> list[list[str]]:
+    """The tests of all these, of each module together."""
+    found: dict[str, set[str]] = {}
+    for edit in edits:
+        found.setdefault(edit.test.partition(".")[0], set()).add(edit.test)
+    return [sorted(tests) for tests in found.values()]
+
+
+def pass_unmade(tests: list[str]) -> bool:
+    """Whether these pass without any mistake."""
     with tempfile.TemporaryDirectory() as top:
-        return passes(copy_packages(top), *sorted({edit.test for edit in edits}))
+        return passes(copy_packages(top), *tests)
 
 
 def is_seen(edit: Edit) -> bool:
@@ -95,8 +103,10 @@ class WrongBodiesTest(unittest.TestCase):
         self.assertTrue(paths)
         edits = [read_edit(path) for path in paths]
         with concurrent.futures.ThreadPoolExecutor(AT_ONCE) as pool:
-            unmade, seen = pool.submit(pass_unmade, edits), [pool.submit(is_seen, edit) for edit in edits]
-            self.assertTrue(unmade.result(), "a test fails without the mistake")
+            unmade = [(tests, pool.submit(pass_unmade, tests)) for tests in by_module(edits)]
+            seen = [pool.submit(is_seen, edit) for edit in edits]
+            for tests, run in unmade:
+                self.assertTrue(run.result(), f"one fails without the mistake: {tests}")
             for path, it in zip(paths, seen):
                 with self.subTest(os.path.basename(path)):
                     self.assertTrue(it.result(), "the mistake isn't seen")
