@@ -273,7 +273,7 @@ def lock_out(program: Program) -> None:
         env = {"LD_PRELOAD": stopper.library, "STOP_AT": str(number), "STOP_HOW": WAIT, "STOP_TELL": "-1"}
         pipes = {"stdin": subprocess.PIPE, "stdout": subprocess.PIPE, "stderr": subprocess.PIPE}
         late = program.children.start([program.path, "serve", folder, "--trace"], env=env, **pipes)
-        while not is_waiting(late.pid):
+        while late.poll() is None and not is_waiting(late.pid):
             time.sleep(0.001)
         first = program.children.start([program.path, "serve", folder, *words_of(shops[0], *KEEP)], env={}, **{**pipes, "stderr": None})
         try:
