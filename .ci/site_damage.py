@@ -7,8 +7,8 @@ import os
 import shutil
 
 from gate_programs import AT_ONCE, Fault
-from site_misuse import OTHERS, damaged, refuses
-from site_model import END, Log, Text, sum_line
+from site_misuse import CHANGED_HEAD, OTHERS, damaged, refuses
+from site_model import END, ChangedHead, Log, NoLog, Text, sum_line
 from site_program import SHOP, Program, Site, files_of
 
 # What each start of site 0 is asked: four records a start, its restart's among them, in two batches.
@@ -54,10 +54,11 @@ def shortened(text: bytes, begin: int) -> list[bytes]:
 
 def why_refused(text: bytes) -> str:
     """Why a start refuses this text as the log of site 0, or nothing where it stands."""
-    head = SHOP.log_head(0)
-    if not text.startswith(head):
-        return OTHERS
-    bad_line = Text.of(text[len(head) :]).bad_line
+    try:
+        _, head = SHOP.head_of(0, text)
+    except NoLog as fault:
+        return CHANGED_HEAD if isinstance(fault, ChangedHead) else OTHERS
+    bad_line = Text.of(text[head:]).bad_line
     return damaged(bad_line) if bad_line else ""
 
 

@@ -1,14 +1,15 @@
 #!/usr/bin/env python3
-"""Asks the program escrow_site over the folders of .ci/folders, whose logs are of version 1, as programs wrote them before
-logs had sums: each answer has to be the one that the program gave that wrote them, byte for byte, and so has what is left
-of the folders.
+"""Asks the program escrow_site over the folders of .ci/folders, as programs wrote them once: each answer has to be the one that
+the program gave that wrote them, byte for byte, and so has what is left of the folders.
 
     .ci/site_folders.py PROGRAM     writes .ci/folders/WORLD.told anew, by this program: what it answers
 
 .ci/folders/nameless is a world of three sites without a name of its own (`escrow site 1`): two logs end in a torn record, as
 a stop leaves them, one trace in a torn line, and two are ahead of their logs. .ci/folders/named is one of two sites that
 has a name (`escrow site 2`), over logs of version 1. Both were written, and WORLD.told too, by the last program that wrote
-version 1, whose SHA-256 begins with 73772cdd3a49: git has it as packed/escrow_site.gz. Nothing of them is ever edited.
+version 1, whose SHA-256 begins with 73772cdd3a49: git has it as packed/escrow_site.gz. .ci/folders/sealed is one of two sites
+over logs of version 2, with keys and torn ends, by the last program that couldn't shorten a log, 82178c5aeb32. Nothing of them is
+ever edited.
 """
 from __future__ import annotations
 
@@ -46,6 +47,13 @@ WORLDS = (
     World("named", {
         "hall0": "kept 1.2\n0 read seats\n0 give 1 seats lower 20\n0 begin\n0 escrow 2.1 seats -1\n0 commit 2.1\n",
         "hall1": "1 accept 0 1 seats lower 80\n1 share seats\n1 begin\n1 escrow 2.1 seats 3\n1 commit 2.1\n",
+    }),
+    World("sealed", {
+        "arena0": "kept 1.1\nkept 1.2\nkept 2.3\nkept key ticket-1\nkept key ticket-2\nkept key ticket-3\n0 share seats\n"
+                  "0 read cash\n0 begin\n0 escrow 3.1 seats -1\n0 commit 3.1 key ticket-2\n0 abort 3.1\n0 begin\n"
+                  "0 escrow 3.2 seats -1\n0 commit 3.2 key ticket-3\n0 give 1 seats lower 1\n",
+        "arena1": "1 accept 0 1 seats lower 31\n1 accept 0 1 cash lower 9\n1 share cash\nkept 1.1\n1 restart\n1 begin\n"
+                  "1 escrow 3.1 cash 4\n1 commit 3.1 key ticket-1\nkept key ticket-1\n",
     }),
 )  # fmt: skip
 
@@ -105,7 +113,7 @@ def first_difference(answered: str, wanted: str) -> str:
 
 
 def serve_old_folders(program: Program) -> None:
-    """Folders of version 1 are told of, served, checked, woven and settled as they were."""
+    """Folders of programs of before are told of, served, checked, woven and settled as they were."""
     for world in WORLDS:
         answered = told(program, world)
         with open(f"{world.kept()}.told", encoding="utf-8", newline="") as file:

@@ -65,8 +65,8 @@ OTHER_LOGS = (
     b"R 1\n",
     HEAD[:-1],
     HEAD[: HEAD.index(b"sum")] + sealed(b"R 1\n"),
-    HEAD.replace(b"log 2", b"log 3"),
-    sealed(HEAD[: HEAD.index(b"sum")].replace(b"log 2", b"log 3")),
+    HEAD.replace(b"log 2", b"log 4"),
+    sealed(HEAD[: HEAD.index(b"sum")].replace(b"log 2", b"log 4")),
     HEAD.replace(b"head 0 0", b"head 0 1"),
     HEAD.replace(b"sum", b"Sum"),
     f"escrow log 1\nnumber 0\nworld {NAME}\n".encode(),
@@ -124,6 +124,11 @@ COMMAND_LINES: tuple[tuple[list[str], str], ...] = (
     (["serve", "shop", "--not-before", "1"], "--not-before"),
     (["serve", "shop", "--not-before", "1", "two"], "two"),
     (["serve", "shop", "more"], "more"),
+    (["serve", "shop", "--keep"], "--keep"),
+    (["serve", "shop", "--keep", "all"], "all"),
+    (["serve", "shop", "--keep", "-1"], "-1"),
+    (["serve", "shop", "--keep", "18446744073709551616"], "18446744073709551616"),
+    (["show", "shop", "--keep", "0"], "--keep"),
     (["show", "shop", "--no-sync"], "--no-sync"),
     (["check"], "FOLDER"),
     (["settle"], "FOLDER"),
@@ -137,6 +142,7 @@ COMMAND_LINES: tuple[tuple[list[str], str], ...] = (
 
 GONE = "isn't there: put the newest log back; a site without it would sell again what it sold"
 OTHERS = "isn't the log of this site, or is a later program's: serve it by that, or put its own newest log back"
+CHANGED_HEAD = "its head was changed: put its own newest log back"
 NO_RECORD = "line {} is no record of this site: put its own newest log back"
 LOST = "the logs of these sites are lost: {}: nothing was closed: put the newest ones back to settle"
 
@@ -162,7 +168,7 @@ def refuse_command_lines(program: Program) -> None:
             raise Fault(f"escrow_site {' '.join(words)}: {status}, {out!r}, {err!r}")
 
 
-VERSIONS = "escrow_site 0.1.0: reads site 1 2, log 1 2, trace 1; makes site 2, log 2, trace 1; answers ready 1\n"
+VERSIONS = "escrow_site 0.1.0: reads site 1 2, log 1 2 3, trace 1; makes site 2, log 2 3, trace 1; answers ready 1 2\n"
 
 
 def tell_versions(program: Program) -> None:
@@ -233,6 +239,7 @@ def refuse_logs(program: Program) -> None:
     site = program.created("bad_logs")
     log = f"{site.folder}/log"
     held = [(text, OTHERS) for text in OTHER_LOGS]
+    held += [(text.replace(b"log 2", b"log 3"), CHANGED_HEAD) for text in (HEAD, sealed(HEAD[: HEAD.index(b"sum")]))]
     held += [(SHOP.log_text(0, *batches), NO_RECORD.format(line)) for batches, line in LOGS]
     held += [(HEAD + text, damaged(line)) for text, line in DAMAGED_LOGS]
     for text, told in held:

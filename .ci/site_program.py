@@ -5,7 +5,7 @@ import dataclasses
 import os
 
 from gate_programs import Children, Fault
-from site_model import Field, Log, World
+from site_model import Field, Gone, Log, World, id_of
 
 SHOP = World(2, (Field("stock", 0, 100, 40),))
 ALONE = World(1, SHOP.fields, "kiosk-2026")
@@ -27,6 +27,14 @@ class Site:
     def log(self) -> Log:
         with open(f"{self.folder}/log", "rb") as file:
             return Log(self.world, self.number, file.read())
+
+    def let_go(self) -> None:
+        """Lets go of all records of its log, as a program would where their summary is the last one: that stays."""
+        log = self.log()
+        numbers = [number for epoch, number in map(id_of, log.commits) if epoch == log.epoch]
+        gone = Gone(log.length, len([it for it in log.records if not it.startswith("S")]), log.epoch, max(numbers, default=0))
+        with open(f"{self.folder}/log", "wb") as file:
+            file.write(self.world.log_text(self.number, f"{log.summary()}\n".encode(), gone=gone))
 
     def traced_since(self, line: str) -> list[str]:
         """The whole lines of the trace from the last such line on: none, where a stop came before there was a trace."""

@@ -14,7 +14,7 @@ import os
 import shutil
 from collections.abc import Callable, Iterable
 
-from gate_programs import AT_ONCE, Fault, built, preloaded
+from gate_programs import AT_ONCE, Fault, as_file, built, preloaded
 from site_model import END, Log, check_world, checked, settled
 from site_program import FIRST, SHOP, Program, Site, files_of
 from site_settled import AGAIN, ENDED
@@ -84,13 +84,18 @@ class Stopper:
         self.library = preloaded(program.children, program.folder, "stop_calls")
         self.escrow = built(program.children, "escrow", "--help")
 
-    def run(self, words: list[str], given: str, number: int = 0, how: str = KILL) -> Ended:
+    def run(self, words: list[str], given: str, number: int = 0, how: str = KILL, is_whole: bool = False) -> Ended:
+        """How it ends where it is given these lines, in a file where each read is to bring as much as it has room for."""
         name = f"escrow_site {' '.join(words)}, call {number}: {how}"
         told = os.memfd_create("calls")
         env = {"LD_PRELOAD": self.library, "STOP_AT": str(number), "STOP_HOW": how, "STOP_TELL": str(told)}
         try:
             words = [self.program.path, *words]
-            ended = self.program.children.run(name, words, given.encode(), env=env, pass_fds=(told,))
+            if is_whole:
+                with as_file(given.encode()) as stdin:
+                    ended = self.program.children.run(name, words, env=env, pass_fds=(told,), stdin=stdin)
+            else:
+                ended = self.program.children.run(name, words, given.encode(), env=env, pass_fds=(told,))
             lines = os.pread(told, os.fstat(told).st_size, 0).decode().splitlines()
         finally:
             os.close(told)
@@ -128,12 +133,19 @@ def places(folder: str, path: str) -> list[str]:
     return [f"{folder}/trace"] if path == f"{folder}/trace.new" else [path]
 
 
+def is_made_again(ended: Ended, call: Call) -> bool:
+    """Whether a read that failed was made again: a look at the first bytes of a log, behind which all of it is read."""
+    behind = ended.calls[ended.calls.index(call) + 1 :]
+    return call.name == "pread" and behind != [] and (behind[0].name, behind[0].path) == (call.name, call.path)
+
+
 def check_told(ended: Ended, folders: list[str]) -> None:
-    """A process that was killed tells nothing; a call that failed is told, but for a `close`, which changes nothing."""
+    """A process that was killed tells nothing; a call that failed is told, but for a `close`, which changes nothing, and a read that
+    was made again."""
     call = ended.stopped()
     if ended.how in (KILL, TEAR):
         is_right = (ended.status, ended.err) == (-9, "")
-    elif call.name == "close":
+    elif call.name == "close" or is_made_again(ended, call):
         is_right = (ended.status, ended.err) == (0, "")
     elif call.path in ("stdin", "stdout"):
         is_right = (ended.status, ended.err) == (1, f"escrow_site: {'read' if call.path == 'stdin' else 'write'} fault\n")
@@ -349,12 +361,13 @@ def stop_starts(program: Program) -> None:
 
 
 def sold(program: Program, name: str) -> list[Site]:
-    """The two sites of a world, of which one has sold and given."""
+    """The two sites of a world, of which one has sold and given, and has let go of what its log had."""
     sites = [program.created(f"{name}{number}", SHOP, number, True) for number in range(2)]
     for site, asked in zip(sites, (ASKED.format(1), "1 accept 0 1 stock lower 3\n")):
         status, out, err = program.run(["serve", site.folder, "--trace"], asked.encode())
         if status or err or "refused" in out:
             raise Fault(f"{site.folder}: {status}, {out!r}, {err!r}")
+    sites[0].let_go()
     return sites
 
 

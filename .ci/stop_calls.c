@@ -1,6 +1,8 @@
 /* Stops a program at one of its calls of the system. Preloaded to a program, it counts the calls below, from 1 on. The one of
    number STOP_AT isn't made: where STOP_HOW is `kill` the process is killed before it, where it is `tear` half of what it
-   was to write is written before that, and else it fails with the error of that number. A file is closed either way.
+   was to write is written before that, where it is `short` that half is all that the call writes, where it is `none` it writes
+   nothing, and else it fails with the error of that number. A file is closed either way. Where STOP_HOW is `wait` the process
+   stops before the call (SIGSTOP), and makes it once it is told to go on.
 
    To the descriptor STOP_TELL it writes a line for each call that was made, `CALL PATH NUMBER`: the number is of a sync that
    went well how many bytes the file has, of one that failed -1, of another call its answer. The call that was stopped is told
@@ -17,7 +19,7 @@ extern int kill(int, int);
 extern long lseek(int, long, int);
 
 /* (of Linux and its C library) */
-enum { killed = 9, creates = 0100, from_end = 2 };
+enum { killed = 9, stopped = 19, creates = 0100, from_end = 2 };
 static void *const next = (void *)-1l;
 
 enum { files = 64, longest = 200 };
@@ -25,7 +27,8 @@ static char paths[files][longest] = {"stdin", "stdout", "stderr"};
 
 static count (*real_write)(int, const void *, size);
 static long at, seen, error;
-static int tell = -1, tears;
+static int tell = -1;
+static char how_stopped;
 
 __attribute__((constructor)) static void start(void) {
     const char *number = getenv("STOP_AT"), *descriptor = getenv("STOP_TELL"), *how = getenv("STOP_HOW");
@@ -34,7 +37,7 @@ __attribute__((constructor)) static void start(void) {
     tell = (int)strtol(descriptor, 0, 10);
     at = strtol(number, 0, 10);
     error = strtol(how, 0, 10);
-    tears = how[0] == 't';
+    how_stopped = how[0];
 }
 
 /* Adds the words to the line, as far as there is room. */
@@ -70,7 +73,11 @@ static int is_stopped(const char *call, const char *path) {
     seen += 1;
     if (seen != at) return 0;
     tell_call("! ", call, path, 0);
-    if (!error && !tears) kill(getpid(), killed);
+    if (how_stopped == 'k') kill(getpid(), killed);
+    if (how_stopped == 'w') {
+        kill(getpid(), stopped);
+        return 0;
+    }
     *__errno_location() = (int)error;
     return 1;
 }
@@ -110,11 +117,9 @@ count pread(int file, void *bytes, size room, long place) {
 
 count write(int file, const void *bytes, size length) {
     if (!is_stopped("write", path_of(file))) return told("write", path_of(file), real_write(file, bytes, length));
-    if (tears) {
-        real_write(file, bytes, length / 2);
-        kill(getpid(), killed);
-    }
-    return -1;
+    count half = how_stopped == 't' || how_stopped == 's' ? real_write(file, bytes, length / 2) : 0;
+    if (how_stopped == 't') kill(getpid(), killed);
+    return error ? -1 : half;
 }
 
 count __write(int file, const void *bytes, size length) { return write(file, bytes, length); }
@@ -152,6 +157,19 @@ int rename(const char *path, const char *to) {
     static int (*real)(const char *, const char *);
     if (!real) real = (int (*)(const char *, const char *))dlsym(next, "rename");
     return is_stopped("rename", path) ? -1 : (int)told("rename", path, real(path, to));
+}
+
+int unlink(const char *path) {
+    static int (*real)(const char *);
+    if (!real) real = (int (*)(const char *))dlsym(next, "unlink");
+    return is_stopped("unlink", path) ? -1 : (int)told("unlink", path, real(path));
+}
+
+int statx(int file, const char *path, int flags, unsigned mask, void *found) {
+    static int (*real)(int, const char *, int, unsigned, void *);
+    if (!real) real = (int (*)(int, const char *, int, unsigned, void *))dlsym(next, "statx");
+    const char *of = path && *path ? path : path_of(file);
+    return is_stopped("stat", of) ? -1 : (int)told("stat", of, real(file, path, flags, mask, found));
 }
 
 int mkdir(const char *path, unsigned mode) {

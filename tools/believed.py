@@ -127,14 +127,13 @@ class Closure:
         return done
 
     def row(self, file: tuple[str, str], found: set[Definition]) -> str:
-        """A file: how many of its definitions are believed, on how many lines, and which, or which not."""
+        """A file: which of its definitions are believed."""
         own = [Definition(*file, it) for it in self.module(*file).bodies]
         names = [f"`{it.name}`" for it in own if it in found]
         others = [f"`{it.name}`" for it in own if it not in found and it.name.isidentifier()]
-        lines = sum(self.lines(it) for it in own if it in found)
-        said = f"{len(names)} of {len(own)}" if len(names) < len(own) else f"all {len(own)}"
-        which = "" if len(names) == len(own) else f": {', '.join(names)}" if len(names) <= len(others) else f"; not {', '.join(others)}"
-        return wrapped(f"`{own[0].file}`: {said}, {lines} lines{which}", "- ", "  ")
+        few = len(names) <= len(others) or not others
+        which = "all" if len(names) == len(own) else ", ".join(names) if few else f"all but {', '.join(others)}"
+        return wrapped(f"`{own[0].file}`: {which}", "- ", "  ")
 
 
 def table() -> str:

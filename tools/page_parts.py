@@ -10,12 +10,12 @@ docs/DEFINITIONS.md, `believed`: what the main promises rest on, by tools/believ
 is a fault.
 
 docs/DEFINITIONS.md, `index`: by crate, the files of crates/*/specs with a definition that the contract of an exported function
-or trait names, or that an exported type is seen as. Laws (functions whose body is empty) and worked rows don't count. What the
-page tells by hand is left out: a name that one crate alone has counts wherever it stands, and any other in a bullet or a
-paragraph that names its crate.
+or trait names, or that an exported type is seen as; last the crates of which all files have one. Laws (functions whose body is
+empty) and worked rows don't count. What the page tells by hand is left out: a name that one crate alone has counts wherever it
+stands, and any other in a bullet or a paragraph that names its crate.
 
-docs/CHANGING.md, `stops`: the crates, and the folders beside them, of the files that name a command, a reply, a refusal, a limit
-or a kind of record; tools/stops.py has the files.
+docs/CHANGING.md, `stops`: the crates, the lowest first, and the folders beside them, of the files that name a command, a reply, a
+refusal, a limit or a kind of record; tools/stops.py has the files.
 
 With --check nothing is written, and the status is 1 where a page isn't as it would be written. It needs Python 3.10, git and
 the standard library alone.
@@ -47,8 +47,8 @@ def needs_of() -> dict[str, list[str]]:
 
 def graph() -> str:
     needs, below, texts = needs_of(), dict[str, set[str]](), list[str]()
-    for comment, floor in floors_of():
-        lines = [f"    # {comment.partition(':')[0].rstrip('.')}"]
+    for _, floor in floors_of():
+        lines = list[str]()
         for crate, named in floor.items():
             crates = [it for it in named if it in needs]
             below[crate] = set(crates).union(*(below[it] for it in crates))
@@ -116,14 +116,21 @@ def index(rest: str) -> str:
     for crate, file in ((crate, file) for crate, of_crate in files.items() for file in of_crate):
         for name in names_of(file):
             owners.setdefault(name, set()).add(crate)
+    whole = list[str]()
     for crate, of_crate in files.items():
-        told, shown = told_by_hand(rest, crate, owners), list[str]()
+        told, shown, others = told_by_hand(rest, crate, owners), list[str](), list[str]()
         for file in of_crate:
             module = os.path.basename(file).removesuffix(".antt")
             if not module.startswith("Worked") and any(Definition(crate, module, it) in cited for it in {*names_of(file)} - told):
                 shown.append(f"`{module}.antt`")
-        if shown:
-            lines.append(wrapped(f"`{crate}`: {', '.join(shown)}", "- ", "  "))
+            elif names_of(file):
+                others.append(f"`{module}.antt`")
+        if shown and not others:
+            whole.append(f"`{crate}`")
+        elif shown:
+            named = ", ".join(shown) if len(shown) <= len(others) + 1 else f"all but {', '.join(others)}"
+            lines.append(wrapped(f"`{crate}`: {named}", "- ", "  "))
+    lines.append(wrapped(f"all of {', '.join(whole)}", "- ", "  "))
     return "\n".join(lines)
 
 
@@ -140,12 +147,11 @@ def stops() -> str:
         else:
             folder = ".ci" if parts[0] == ".ci" else os.path.dirname(file) or "."
             folders.setdefault(folder, []).append(letters)
-    floors = [(comment, {it: crates[it] for it in floor if it in crates}) for comment, floor in floors_of()]
+    of_floors = {it: crates[it] for _, floor in floors_of() for it in floor if it in crates}
     lines = list[str]()
-    for comment, shown in [*floors, ("Beside the crates", folders)]:
-        if shown:
-            told = " ".join(f"{name}({joined(letters)})" for name, letters in shown.items())
-            lines += [f"    # {comment.partition(':')[0].rstrip('.')}", wrapped(told, "    ", "    ")]
+    for shown in (of_floors, folders):
+        told = " ".join(f"{name}({joined(letters)})" for name, letters in shown.items())
+        lines.append(wrapped(told, "    ", "    "))
     return "\n".join(lines)
 
 

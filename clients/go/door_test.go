@@ -138,24 +138,24 @@ func tryCalls(t *testing.T, site *Site) {
 		site.ChangeBefore("stock", -1, func(string) error { panic("the books are gone") })
 	}()
 	share(t, site, 16, 34)
-	order, err := site.ChangeByKey("stock", -2, "order-1")
+	order, err := site.ChangeByKey("stock", -2, "order-1", "")
 	for _, change := range []int64{-2, -15} { // there are 14
-		if again, other := site.ChangeByKey("stock", change, "order-1"); again != order || err != nil || other != nil {
+		if again, other := site.ChangeByKey("stock", change, "order-1", ""); again != order || err != nil || other != nil {
 			t.Error(again, order, err, other)
 		}
 	}
-	if _, err := site.ChangeByKey("stock", -15, "order-2"); err != error(Refused{"refused 7 short 14"}) {
+	if _, err := site.ChangeByKey("stock", -15, "order-2", ""); err != error(Refused{"refused 7 short 14"}) {
 		t.Error(err)
 	}
-	if kept, err := site.KeptKey("order-1"); kept != order || err != nil {
+	if kept, err := site.KeptKey("order-1", ""); kept != order || err != nil {
 		t.Error(kept, err)
 	}
-	if kept, err := site.KeptKey("order-2"); kept != "" || err != nil {
+	if kept, err := site.KeptKey("order-2", ""); kept != "" || err != nil {
 		t.Error(kept, err)
 	}
 	for _, key := range []string{"", "a b", "a\n1 begin", "a/b", strings.Repeat("x", 65)} {
-		_, keyed := site.ChangeByKey("stock", -1, key)
-		if _, err := site.KeptKey(key); !errors.Is(err, ErrKey) || !errors.Is(keyed, ErrKey) {
+		_, keyed := site.ChangeByKey("stock", -1, key, "")
+		if _, err := site.KeptKey(key, ""); !errors.Is(err, ErrKey) || !errors.Is(keyed, ErrKey) {
 			t.Error(key, err, keyed)
 		}
 	}
@@ -169,7 +169,7 @@ func tryCalls(t *testing.T, site *Site) {
 	if _, err := site.Kept(both.ID); err != ErrOpen {
 		t.Error(err)
 	}
-	if _, err := both.CommitByKey("a b"); !errors.Is(err, ErrKey) {
+	if _, err := both.CommitByKey("a b", ""); !errors.Is(err, ErrKey) {
 		t.Error(err)
 	}
 	changed, committed := both.Change("seats", -20), both.Commit()
@@ -181,7 +181,7 @@ func tryCalls(t *testing.T, site *Site) {
 		t.Error(err)
 	}
 	again, _ := site.Begin("stock", -10)
-	if id, err := again.CommitByKey("order-1"); id != order || err != nil {
+	if id, err := again.CommitByKey("order-1", ""); id != order || err != nil {
 		t.Error(id, err)
 	}
 	if kept, err := site.Kept(again.ID); kept || err != nil {
@@ -263,8 +263,8 @@ func tryPlaces(t *testing.T, site *Site, many int) {
 		sells.Add(1)
 		go func(key string) {
 			defer sells.Done()
-			_, err := site.ChangeByKey("seats", -1, key)
-			for ; err == ErrBusy; _, err = site.ChangeByKey("seats", -1, key) { // the other has it
+			_, err := site.ChangeByKey("seats", -1, key, "")
+			for ; err == ErrBusy; _, err = site.ChangeByKey("seats", -1, key, "") { // the other has it
 			}
 			if err != nil {
 				t.Error(key, err)
@@ -335,10 +335,10 @@ func TestDoorStandsStill(t *testing.T) {
 	if _, err := site.Change("stock", -1); err != ErrBusy {
 		t.Error(err)
 	}
-	if _, err := site.ChangeByKey("stock", -1, "a"); err != ErrStopped && err != ErrBusy {
+	if _, err := site.ChangeByKey("stock", -1, "a", ""); err != ErrStopped && err != ErrBusy {
 		t.Error(err)
 	}
-	if _, err := site.KeptKey("a"); err != ErrStopped {
+	if _, err := site.KeptKey("a", ""); err != ErrStopped {
 		t.Error(err)
 	}
 	if changed, err := begun.Change("seats", -1), begun.Commit(); changed != error(Lost{begun.ID}) || err != error(Lost{begun.ID}) {
@@ -368,11 +368,11 @@ func TestTakenIsInDoubt(t *testing.T) {
 	if _, err := site.Change("stock", -1); !errors.As(err, &doubt) || !strings.HasSuffix(doubt.ID, "-1-1.2") || !site.Up() {
 		t.Error(err, site.Up())
 	}
-	if _, err := begun.CommitByKey("order"); err != error(InDoubt{begun.ID}) {
+	if _, err := begun.CommitByKey("order", ""); err != error(InDoubt{begun.ID}) {
 		t.Error(err)
 	}
 	var lost Lost
-	if _, err := site.ChangeByKey("stock", -1, "third"); !errors.As(err, &lost) {
+	if _, err := site.ChangeByKey("stock", -1, "third", ""); !errors.As(err, &lost) {
 		t.Error(err)
 	}
 	syscall.Kill(served, syscall.SIGCONT)
@@ -382,7 +382,7 @@ func TestTakenIsInDoubt(t *testing.T) {
 	if !keptFirst || keptLost || err != nil || other != nil {
 		t.Error(keptFirst, keptLost, err, other)
 	}
-	if id, err := site.ChangeByKey("stock", 1, "order"); id != begun.ID || err != nil {
+	if id, err := site.ChangeByKey("stock", 1, "order", ""); id != begun.ID || err != nil {
 		t.Error(id, err)
 	}
 	share(t, site, 20, 30)
@@ -420,13 +420,13 @@ func TestStopOfTheProcess(t *testing.T) {
 	if _, err := site.Change("stock", -1); !errors.As(err, &doubt) {
 		t.Error(err)
 	}
-	if _, err := site.KeptKey("a"); err != ErrBusy {
+	if _, err := site.KeptKey("a", ""); err != ErrBusy {
 		t.Error(err)
 	}
 	if err := site.End(); err != error(Ended{-1}) { // by force
 		t.Error(err)
 	}
-	if _, err := begun.CommitByKey("a"); err != error(Lost{begun.ID}) {
+	if _, err := begun.CommitByKey("a", ""); err != error(Lost{begun.ID}) {
 		t.Error(err)
 	}
 	site = started(t, program, folder)
@@ -499,7 +499,7 @@ func TestFullDisk(t *testing.T) {
 	if !errors.As(err, &doubt) && err != ErrStopped {
 		t.Fatal(err)
 	}
-	if _, err := site.ChangeByKey("seats", -1, "order"); err != ErrStopped || site.Up() {
+	if _, err := site.ChangeByKey("seats", -1, "order", ""); err != ErrStopped || site.Up() {
 		t.Error(err) // the door waits until there is room
 	}
 	os.Remove(filler.Name())
@@ -511,8 +511,8 @@ func TestFullDisk(t *testing.T) {
 			net += change
 		}
 	}
-	first, err := site.ChangeByKey("seats", -1, "order")
-	if again, other := site.ChangeByKey("seats", -1, "order"); err != nil || other != nil || again != first {
+	first, err := site.ChangeByKey("seats", -1, "order", "")
+	if again, other := site.ChangeByKey("seats", -1, "order", ""); err != nil || other != nil || again != first {
 		t.Error(first, again, err, other)
 	}
 	share(t, site, uint64(20+net), uint64(30-net))
@@ -725,7 +725,7 @@ func TestOrders(t *testing.T) {
 			for order := atomic.AddInt64(&next, 1); order <= 1500; order = atomic.AddInt64(&next, 1) {
 				id, err := "", error(ErrBusy)
 				for err != nil { // whatever became of it: it is done once
-					if id, err = door.now(t).ChangeByKey("stock", -1, fmt.Sprint("order-", order)); errors.As(err, &Refused{}) {
+					if id, err = door.now(t).ChangeByKey("stock", -1, fmt.Sprint("order-", order), ""); errors.As(err, &Refused{}) {
 						t.Error(order, err)
 						return
 					}

@@ -62,7 +62,8 @@ var ErrDoor = errors.New("escrow: no way in by this door")
 var ErrKey = errors.New("escrow: no key of 1 to 64 of A-Z a-z 0-9 . _ -")
 
 // ErrID is the error of what is no id of this site, or none that the log can tell of: of another world or another site, or of an epoch
-// or number that isn't yet. Of a world that was settled look in the old folder's log.
+// or number that isn't yet. So too of a position, and of one that isn't ahead of the transaction: nothing was committed. Of a world that
+// was settled look in the old folder's log.
 var ErrID = errors.New("escrow: no id of a transaction of this site")
 
 // ErrForgotten is the error where the log was shortened, and a commit of this id, or with this key, may be among what it has let go of:
@@ -287,18 +288,19 @@ func written(write func(id string) error, id string) (fault error, panicked any)
 
 // ChangeByKey is Change, in two trips, once for each key however often it is asked for: 1 to 64 of A-Z a-z 0-9 . _ -, as the number of an
 // order. The id is that of the commit that has the key, which may be an earlier one. So after any error but Refused ask for the
-// same again, with the same key. Over a log that may be shortened it takes a third trip. An error is ErrKey too, or ErrForgotten, where
-// an earlier one may have the key: then nothing is committed.
-func (site *Site) ChangeByKey(name string, change int64, key string) (string, error) {
-	if !aKey.MatchString(key) {
-		return "", fmt.Errorf("%w: %q", ErrKey, key)
+// same again, with the same key. An error is ErrKey too, or ErrForgotten, where the log was shortened and may have let go of an earlier
+// one: then nothing is committed. By since a new key is told from such a one: what Position told, and the program's own books had beside
+// the order, before it was first asked for; "" where there is none.
+func (site *Site) ChangeByKey(name string, change int64, key, since string) (string, error) {
+	if _, err := site.keyLine(key, since, place{}); err != nil {
+		return "", err
 	}
 	site.count(key, 1)
 	defer site.count(key, -1)
 	begun, err := site.Begin(name, change)
 	if refused := (Refused{}); errors.As(err, &refused) {
 		hasOthers := site.count(key, 0) > 1 // asked ahead of what is kept: it may commit in between
-		if kept, fault := site.KeptKey(key); kept != "" || fault != nil {
+		if kept, fault := site.KeptKey(key, since); kept != "" || fault != nil {
 			return kept, fault
 		} else if hasOthers {
 			return "", ErrBusy
@@ -307,7 +309,64 @@ func (site *Site) ChangeByKey(name string, change int64, key string) (string, er
 	if err != nil {
 		return "", err
 	}
-	return begun.CommitByKey(key)
+	defer begun.Abort()
+	return begun.CommitByKey(key, since)
+}
+
+// Position is where this site is now, for the since of a key: its newest transaction, or one of number 0 at its start. Write it down
+// beside the order before the order is first asked for, and give that one each time. Over a door that is asked: an error is ErrBusy or
+// ErrStopped.
+func (site *Site) Position() (string, error) {
+	if site.lines.door == nil {
+		at := site.next()
+		return site.idOf(fmt.Sprintf("%d.%d", at.epoch, at.number-1)), nil
+	}
+	reply, err := site.one("position")
+	if err != nil {
+		return "", err
+	} else if !numbers.MatchString(reply) {
+		return "", odd(reply)
+	}
+	return site.idOf(reply), nil
+}
+
+// place is how lines name a transaction.
+type place struct{ epoch, number uint64 }
+
+// next is the transaction that begins next; over a door one that is behind all of the epoch, since others begin some too.
+func (site *Site) next() place {
+	if site.lines.door != nil {
+		return place{site.lines.epoch, 1 << 32}
+	}
+	site.lines.writing.Lock()
+	defer site.lines.writing.Unlock()
+	return place{site.lines.epoch, site.lines.begun + 1}
+}
+
+// keyLine is how lines tell a key, with its position where the log may be shortened: older programs don't know that. The position has to
+// be ahead of own, the transaction that is to have the key; where it is none, of the next one.
+func (site *Site) keyLine(key, since string, own place) (string, error) {
+	if !aKey.MatchString(key) {
+		return "", fmt.Errorf("%w: %q", ErrKey, key)
+	} else if since == "" {
+		return "key " + key, nil
+	}
+	at, err := site.placeOf(since)
+	if err != nil {
+		return "", err
+	}
+	if own == (place{}) {
+		own = site.next()
+	}
+	switch {
+	case at.epoch > own.epoch:
+		return "", errLater(since)
+	case at.epoch == own.epoch && at.number >= own.number:
+		return "", fmt.Errorf("%w: the position %s isn't ahead of transaction %d.%d", ErrID, since, own.epoch, own.number)
+	case !site.mayForget:
+		return "key " + key, nil
+	}
+	return fmt.Sprintf("key %s since %d.%d", key, at.epoch, at.number), nil
 }
 
 // count tells how many changes by this key are under way, so many more.
@@ -328,16 +387,11 @@ func (site *Site) count(key string, more int) int {
 // of earlier days told no site, and before that no world. An error is ErrID, ErrOpen, ErrForgotten, which isn't no, or ErrBusy or
 // ErrStopped, where nothing was answered.
 func (site *Site) Kept(of string) (bool, error) {
-	words := id.FindStringSubmatch(of)
-	if words == nil || (words[1] != "" && words[1] != site.world) || (words[2] != "" && words[2] != site.number) {
-		return false, fmt.Errorf("%w: %q, and this is %s-%s", ErrID, of, site.world, site.number)
+	at, err := site.placeOf(of)
+	if err != nil {
+		return false, err
 	}
-	epoch, tooLong := strconv.ParseUint(words[3], 10, 32)
-	number, tooMany := strconv.ParseUint(words[4], 10, 32)
-	if tooLong != nil || tooMany != nil {
-		return false, fmt.Errorf("%w: %q", ErrID, of)
-	}
-	line := fmt.Sprintf("%d.%d", epoch, number)
+	line := fmt.Sprintf("%d.%d", at.epoch, at.number)
 	if site.lines.isOpen(line) {
 		return false, ErrOpen
 	}
@@ -348,9 +402,9 @@ func (site *Site) Kept(of string) (bool, error) {
 		return site.kept(of, site.lines.ask(asked[0], asked, timer))
 	}
 	told, err := site.lines.askProgram(0, func(begun uint64, _ string) ([]string, error) {
-		if epoch > site.lines.epoch {
+		if at.epoch > site.lines.epoch {
 			return nil, errLater(of)
-		} else if epoch == site.lines.epoch && number > begun {
+		} else if at.epoch == site.lines.epoch && at.number > begun {
 			return nil, errUnbegun(of)
 		}
 		return asked, nil
@@ -359,6 +413,20 @@ func (site *Site) Kept(of string) (bool, error) {
 		return false, err
 	}
 	return site.kept(of, told)
+}
+
+// placeOf is how lines name the transaction of an id.
+func (site *Site) placeOf(of string) (place, error) {
+	words := id.FindStringSubmatch(of)
+	if words == nil || (words[1] != "" && words[1] != site.world) || (words[2] != "" && words[2] != site.number) {
+		return place{}, fmt.Errorf("%w: %q, and this is %s-%s", ErrID, of, site.world, site.number)
+	}
+	epoch, tooLong := strconv.ParseUint(words[3], 10, 32)
+	number, tooMany := strconv.ParseUint(words[4], 10, 32)
+	if tooLong != nil || tooMany != nil {
+		return place{}, fmt.Errorf("%w: %q", ErrID, of)
+	}
+	return place{epoch, number}, nil
 }
 
 func errLater(of string) error {
@@ -390,16 +458,23 @@ func (site *Site) kept(of string, told heard) (bool, error) {
 }
 
 // KeptKey has the id of the commit that has this key; "" where none has it by now: a change under way may commit yet. An error is ErrKey,
-// ErrForgotten, where the log may have let go of one, or ErrBusy or ErrStopped, where nothing was answered.
-func (site *Site) KeptKey(key string) (string, error) {
-	if !aKey.MatchString(key) {
-		return "", fmt.Errorf("%w: %q", ErrKey, key)
-	}
-	reply, err := site.one("kept key " + key)
-	if err != nil || reply == "no" {
+// ErrForgotten, where the log may have let go of one, by since as of ChangeByKey, ErrID, of since, or ErrBusy or ErrStopped, where
+// nothing was answered.
+func (site *Site) KeptKey(key, since string) (string, error) {
+	line, err := site.keyLine(key, since, place{})
+	if err != nil {
 		return "", err
 	}
-	return site.idTold(reply, key)
+	switch reply, err := site.one("kept " + line); {
+	case err != nil || reply == "no":
+		return "", err
+	case reply == "later":
+		return "", errLater(since)
+	case reply == "unbegun":
+		return "", errUnbegun(since)
+	default:
+		return site.idTold(reply, key)
+	}
 }
 
 // idTold is the id that a reply tells, of the commit that has a key.

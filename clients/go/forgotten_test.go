@@ -1,7 +1,7 @@
 package escrow
 
-// Over clients/python/tests/forgetful_site.py, which stands in for the program of the next release, whose log lets go of its front:
-// nothing that it has let go of is sold twice.
+// Over clients/python/tests/forgetful_site.py, which stands in for a program whose log lets go of its front: nothing that it has let go of
+// is sold twice, and by its position a new key is sold.
 
 import (
 	"errors"
@@ -58,7 +58,7 @@ func isOdd(t *testing.T, err error) {
 }
 
 func tryForgotten(t *testing.T, folder string, site *Site) {
-	first, err := site.ChangeByKey("stock", -3, "order")
+	first, err := site.ChangeByKey("stock", -3, "order", "")
 	if err != nil {
 		t.Fatal(err)
 	}
@@ -67,38 +67,38 @@ func tryForgotten(t *testing.T, folder string, site *Site) {
 		if err != nil {
 			t.Fatal(err)
 		}
-		return begun.CommitByKey(key)
+		return begun.CommitByKey(key, "")
 	}
-	if again, err := site.ChangeByKey("stock", -3, "order"); again != first || err != nil {
+	if again, err := site.ChangeByKey("stock", -3, "order", ""); again != first || err != nil {
 		t.Error(again, err)
 	}
 	if again, err := byKey(-3, "order"); again != first || err != nil || sold(folder) != 1 {
 		t.Error(again, err)
 	}
-	if kept, err := site.KeptKey("other"); kept != "" || err != nil {
+	if kept, err := site.KeptKey("other", ""); kept != "" || err != nil {
 		t.Error(kept, err)
 	}
 	tell(t, folder, `{"horizon": [1, 9]}`)
 	_, err = site.Kept(first)
 	isForgotten(t, first, err)
-	_, err = site.KeptKey("order")
+	_, err = site.KeptKey("order", "")
 	isForgotten(t, "order", err)
-	_, err = site.ChangeByKey("stock", -3, "order") // it would be sold twice
+	_, err = site.ChangeByKey("stock", -3, "order", "") // it would be sold twice
 	isForgotten(t, "order", err)
-	_, err = site.ChangeByKey("stock", -300, "order") // it may be sold, and isn't short
+	_, err = site.ChangeByKey("stock", -300, "order", "") // it may be sold, and isn't short
 	isForgotten(t, "order", err)
 	_, err = byKey(-3, "order")
 	isForgotten(t, "order", err)
 	share(t, site, 17, 33)
 	tell(t, folder, `{"keyed": "forgotten"}`)
-	_, err = site.ChangeByKey("stock", -3, "new")
+	_, err = site.ChangeByKey("stock", -3, "new", "")
 	isForgotten(t, "new", err)
-	tell(t, folder, `{"word": "perhaps"}`)
+	tell(t, folder, `{"word": "perhaps", "keyed": "perhaps"}`)
 	_, err = site.Kept(first)
 	isOdd(t, err)
-	_, err = site.KeptKey("order")
+	_, err = site.KeptKey("order", "")
 	isOdd(t, err)
-	_, err = site.ChangeByKey("stock", -3, "new")
+	_, err = site.ChangeByKey("stock", -3, "new", "")
 	isOdd(t, err)
 	share(t, site, 17, 33)
 	if sold(folder) != 1 {
@@ -123,6 +123,149 @@ func TestForgottenOverADoor(t *testing.T) {
 	tryForgotten(t, it.folder, it.site(0))
 }
 
+// tryPositions sells by keys with their positions, 1 each: new ones are sold over a shortened log, and what was let go of isn't.
+func tryPositions(t *testing.T, folder string, site *Site) {
+	at := func() string {
+		since, err := site.Position()
+		if err != nil {
+			t.Fatal(err)
+		}
+		return since
+	}
+	byCommit := func(key, since string) (string, error) {
+		begun, err := site.Begin("stock", -1)
+		if err != nil {
+			t.Fatal(err)
+		}
+		defer begun.Abort()
+		return begun.CommitByKey(key, since)
+	}
+	byChange := func(key, since string) (string, error) { return site.ChangeByKey("stock", -1, key, since) }
+	start := at()
+	if front := site.world + "-0-1.0"; start != front {
+		t.Error(start, front)
+	}
+	first, err := byChange("first", start)
+	if err != nil || at() != first {
+		t.Fatal(first, err, at())
+	}
+	tell(t, folder, `{"horizon": [1, 1]}`)
+	for name, sell := range map[string]func(key, since string) (string, error){"change": byChange, "commit": byCommit} {
+		for _, key := range []string{"first", "new-" + name} { // its position is of before the horizon
+			_, err := sell(key, start)
+			isForgotten(t, key, err)
+			_, err = site.KeptKey(key, start)
+			isForgotten(t, key, err)
+		}
+		since, many := at(), sold(folder)
+		id, err := sell(name, since)
+		if again, other := sell(name, since); err != nil || again != id || other != nil || sold(folder) != many+1 {
+			t.Error(name, id, err, again, other, sold(folder))
+		}
+		if kept, err := site.KeptKey(name, since); kept != id || err != nil {
+			t.Error(kept, err)
+		}
+	}
+	if kept, err := site.KeptKey("new", first); kept != "" || err != nil {
+		t.Error(kept, err)
+	}
+	if _, err := site.ChangeByKey("stock", -300, "new", at()); !errors.As(err, &Refused{}) {
+		t.Error(err)
+	}
+	for _, since := range []string{"01234567-0-1.0", site.world + "-1-1.0", site.idOf("2.0"), site.idOf("1.900"), "now", "1.4294967296"} {
+		_, ofKey := site.KeptKey("new", since)
+		_, ofChange := byChange("new", since)
+		_, ofCommit := byCommit("new", since)
+		for _, err := range []error{ofKey, ofChange, ofCommit} {
+			if !errors.Is(err, ErrID) {
+				t.Error(since, err)
+			}
+		}
+	}
+	begun, err := site.Begin("stock", -1)
+	if err != nil {
+		t.Fatal(err)
+	} else if _, err := begun.CommitByKey("open", at()); !errors.Is(err, ErrID) || !strings.Contains(err.Error(), "isn't ahead of") {
+		t.Error(err)
+	} else if id, err := begun.CommitByKey("open", first); id != begun.ID || err != nil {
+		t.Error(id, err)
+	}
+	share(t, site, 16, 34)
+	if sold(folder) != 4 {
+		t.Error("sold", sold(folder))
+	}
+}
+
+func TestPositions(t *testing.T) {
+	folder := forgetful(t, "{}")
+	site := started(t, forgetfulSite(t), folder)
+	tryPositions(t, folder, site)
+	if err := site.End(); err != nil {
+		t.Error(err)
+	}
+}
+
+func TestPositionsOverADoor(t *testing.T) {
+	it := &door{t: t, folder: forgetful(t, "{}"), words: []string{"--program", forgetfulSite(t)}}
+	it.path = it.folder + ".door"
+	it.start()
+	t.Cleanup(it.kill)
+	tryPositions(t, it.folder, it.site(0))
+	ours, other := it.site(0), it.site(0)
+	id, err := other.Change("stock", -1)
+	if at, fault := ours.Position(); at != id || err != nil || fault != nil {
+		t.Error(at, id, err, fault)
+	}
+}
+
+func TestPositionsBehindAStop(t *testing.T) {
+	for _, stop := range []string{"ahead", "behind"} {
+		folder := forgetful(t, `{"stop": "`+stop+`", "then": {"horizon": [1, 0]}}`)
+		site := started(t, forgetfulSite(t), folder)
+		since, err := site.Position()
+		if err != nil {
+			t.Fatal(err)
+		}
+		var doubt InDoubt
+		if _, err := site.ChangeByKey("stock", -3, "order", since); !errors.As(err, &doubt) {
+			t.Fatal(err)
+		}
+		if err := site.End(); err != error(Ended{1}) {
+			t.Error(err)
+		}
+		site = started(t, forgetfulSite(t), folder)
+		id, err := site.ChangeByKey("stock", -3, "order", since)
+		if err != nil || sold(folder) != 1 || (stop == "behind") != (id == doubt.ID) {
+			t.Error(stop, id, doubt.ID, err, sold(folder))
+		}
+		tell(t, folder, `{"horizon": [9, 0]}`)
+		_, err = site.ChangeByKey("stock", -3, "order", since)
+		isForgotten(t, "order", err)
+		if err := site.End(); err != nil || sold(folder) != 1 {
+			t.Error(err, sold(folder))
+		}
+	}
+}
+
+func TestAFieldThatIsCalledKey(t *testing.T) {
+	for asked, line := range map[string]string{
+		"0 escrow 1.1 key -1": "0 escrow 1.1 key -1 -> granted", "0 commit 1.1 key a since 1.0": "0 commit 1.1 -> granted",
+		"0 commit 1.1 key a": "kept key a -> granted", "kept key a since 1.0": "kept key a since 1.0 -> granted",
+		"0 commit 1.1 key b since 1.0": "kept key b -> granted",
+	} {
+		if reply, isOne := replyTo(asked, line); reply != "granted" || !isOne {
+			t.Error(asked, line, reply, isOne)
+		}
+	}
+	for asked, line := range map[string]string{
+		"0 commit 1.1 key a since 1.0": "kept key b -> 1.1", "0 escrow 1.1 stock -1": "0 escrow 1.1 -> granted", "kept key a": "kept key b -> no",
+	} {
+		if reply, isOne := replyTo(asked, line); isOne {
+			t.Error(asked, line, reply)
+		}
+	}
+}
+
 func TestForgottenBehindAStop(t *testing.T) {
 	folder := forgetful(t, `{"stop": "behind", "then": {"horizon": [9, 0]}}`)
 	site := started(t, forgetfulSite(t), folder)
@@ -142,12 +285,18 @@ func TestForgottenBehindAStop(t *testing.T) {
 	}
 }
 
-func TestWholeLogIsAskedNothingMore(t *testing.T) {
-	site := started(t, forgetfulSite(t), forgetful(t, `{"version": 1, "word": "perhaps"}`))
-	if _, err := site.ChangeByKey("stock", -3, "order"); err != nil {
-		t.Error(err)
+func TestWholeLogIsToldNoPosition(t *testing.T) {
+	folder := forgetful(t, `{"version": 1}`)
+	site := started(t, forgetfulSite(t), folder)
+	since, _ := site.Position()
+	_, err := site.ChangeByKey("stock", -3, "order", since)
+	if kept, other := site.KeptKey("order", since); kept == "" || err != nil || other != nil {
+		t.Error(kept, err, other)
 	}
 	site.End()
+	if lines, err := os.ReadFile(filepath.Join(folder, "lines")); err != nil || strings.Contains(string(lines), "since") {
+		t.Error(string(lines), err)
+	}
 }
 
 func TestNewer(t *testing.T) {

@@ -310,12 +310,14 @@ func replyTo(asked, line string) (reply string, isOne bool) {
 	if strings.HasPrefix(line, "bad line") {
 		return line, !strings.HasSuffix(asked, " begin")
 	}
-	front, key, isKeyed := strings.Cut(asked, " key ")
-	if strings.HasPrefix(line, front+" -> ") {
-		return line[len(front)+4:], true
+	front, told, isKeyed := strings.Cut(asked, " key ")
+	key, _, _ := strings.Cut(told, " ") // behind it may stand its position
+	for _, other := range []string{asked, front, "kept key " + key} {
+		if strings.HasPrefix(line, other+" -> ") && (other == asked || isKeyed) {
+			return line[len(other)+4:], true
+		}
 	}
-	other := "kept key " + key + " -> "
-	return strings.TrimPrefix(line, other), isKeyed && strings.HasPrefix(line, other)
+	return "", false
 }
 
 // takeWord takes what the door tells by itself.

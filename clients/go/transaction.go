@@ -62,37 +62,30 @@ func (own *Transaction) Change(name string, change int64) error {
 
 // Commit makes its changes permanent. An error is InDoubt, Lost or Refused.
 func (own *Transaction) Commit() error {
-	_, err := own.commit("")
+	_, err := own.commit("", "")
 	return err
 }
 
 // CommitByKey is Commit, once for each key: where a commit with the key is kept already nothing is changed, what was set aside comes back,
-// and the id is that of the earlier one. An error is ErrKey too, by which it stays open, or ErrForgotten, where the log may have let go
-// of an earlier one: then nothing is committed.
-func (own *Transaction) CommitByKey(key string) (string, error) {
-	if !aKey.MatchString(key) {
-		return "", fmt.Errorf("%w: %q", ErrKey, key)
+// and the id is that of the earlier one. An error is ErrKey too, or ErrID, of since, by which it stays open, or ErrForgotten, where the
+// log may have let go of an earlier one: then nothing is committed. since is as of ChangeByKey, from before this transaction began.
+func (own *Transaction) CommitByKey(key, since string) (string, error) {
+	at, _ := own.site.placeOf(own.line)
+	line, err := own.site.keyLine(key, since, at)
+	if err != nil {
+		return "", err
 	}
-	if own.site.mayForget && own.isOpen { // to the program itself a key that it has let go of is a new one
-		if kept, err := own.site.KeptKey(key); err == ErrBusy || err == ErrStopped {
-			own.Abort()
-			return "", Lost{own.ID}
-		} else if kept != "" || err != nil {
-			own.Abort()
-			return kept, err
-		}
-	}
-	return own.commit(key)
+	return own.commit(key, line)
 }
 
-func (own *Transaction) commit(key string) (string, error) {
+func (own *Transaction) commit(key, line string) (string, error) {
 	if !own.isOpen {
 		return "", Lost{own.ID}
 	}
 	site := own.site
 	lines := []string{site.number + " commit " + own.line}
 	if key != "" {
-		lines[0] += " key " + key
+		lines[0] += " " + line
 		if site.lines.door == nil { // a door aborts by itself
 			lines = append(lines, site.number+" abort "+own.line)
 		}

@@ -11,7 +11,7 @@ from typing import Optional, TypeVar, cast
 from .calls import Call, Kept
 from .desk import NEVER, Ask
 from .errors import Busy, Down, Faulty, Forgotten, Interrupted, OddWord, Unknown
-from .keys import KeptKey
+from .keys import CallerKey, KeptKey
 from .pipeline import Pipeline
 from .values import Outcome
 from .waiters import ThreadWaiter
@@ -74,10 +74,10 @@ def id_of(pipeline: Pipeline, line_id: Optional[str]) -> Optional[str]:
     return None if line_id is None else pipeline.front + line_id
 
 
-def kept_with(pipeline: Pipeline, key: str, id: Optional[str], end: float = NEVER) -> Optional[str]:
+def kept_with(pipeline: Pipeline, key: CallerKey, id: Optional[str], end: float = NEVER) -> Optional[str]:
     """The id of the commit that has this key, where a stop left the answer of a commit with it out: that of the
     transaction `id`. Raises `Unknown` where it can't be asked."""
-    return id_of(pipeline, ask_behind_stop(pipeline, KeptKey(key), id, end, key))
+    return id_of(pipeline, ask_behind_stop(pipeline, KeptKey(key), id, end, key.word))
 
 
 def ask_behind_stop(
@@ -109,10 +109,10 @@ async def async_kept(pipeline: Pipeline, ask_: Ask, id: str, end: float = NEVER)
 
 
 async def async_kept_with(
-    pipeline: Pipeline, ask_: Ask, key: str, id: Optional[str], end: float = NEVER
+    pipeline: Pipeline, ask_: Ask, key: CallerKey, id: Optional[str], end: float = NEVER
 ) -> Optional[str]:
     """As `kept_with`."""
-    return id_of(pipeline, await async_ask_behind_stop(pipeline, ask_, KeptKey(key), id, end, key))
+    return id_of(pipeline, await async_ask_behind_stop(pipeline, ask_, KeptKey(key), id, end, key.word))
 
 
 async def async_ask_behind_stop(

@@ -8,6 +8,7 @@ from collections.abc import Callable, Sequence
 from typing import ClassVar, Generic, Optional, Protocol, TypeVar
 
 from .errors import Busy, EscrowError, Faulty, Forgotten, OddWord, Over, Unknown, gone, refused
+from .numbers import read_id
 from .values import Command, Mark, Outcome
 from .waiters import Awaited
 
@@ -26,6 +27,8 @@ class Run(Protocol):
     epoch: int
     is_door: bool
     """Whether lines go to a door, which aborts by itself what a commit with a key leaves open."""
+    may_forget: bool
+    """Whether its log was shortened, or may be."""
 
     run: int
     """Which process it is, or which connection: later ones have greater numbers."""
@@ -283,8 +286,10 @@ class Account(Protocol):
 
     line_id: str
     id: str
-    key: Optional[str]
-    """The key that it is to be committed with, where there is one."""
+
+    @property
+    def key(self) -> Optional[str]:
+        """The key that it is to be committed with, where there is one."""
 
     def named(self, line_id: str) -> None:
         """The site names it so: told where its begin went out before that was known."""
@@ -499,15 +504,15 @@ class Kept(Call[Outcome]):
             return Outcome.COMMITTED
         if text == FORGOTTEN:
             raise Forgotten(self._asked)
-        if text in _BY_A_DOOR:
-            self._stands(_BY_A_DOOR[text])
+        if text in BY_A_DOOR:
+            self._stands(BY_A_DOOR[text])
         elif text != "no":
             raise OddWord(replies[0].line, text)
         return Outcome.OPEN if self._is_open else Outcome.NOT_COMMITTED
 
 
-_BY_A_DOOR = {"later": Standing.LATER, "unbegun": Standing.UNBEGUN, "open": Standing.OPEN}
-"""What a door answers by itself of a transaction."""
+BY_A_DOOR = {"later": Standing.LATER, "unbegun": Standing.UNBEGUN, "open": Standing.OPEN}
+"""What a door answers by itself of a transaction, and of a key's position."""
 
 
 class Left(Call[None]):
@@ -525,6 +530,26 @@ class Left(Call[None]):
 
     def told(self, replies: Sequence[Reply]) -> None:
         """Any answer will do."""
+
+
+class Position(Call[str]):
+    """The newest transaction, as lines name it, or `EPOCH.0`: asked of a door, which knows of all."""
+
+    __slots__ = ()
+    command = Command.SHARE
+    again = True
+
+    def __init__(self) -> None:
+        self.text, self.expected = "position\n", ""
+
+    def plan(self, run: Run) -> None:
+        """It is the same at any time."""
+
+    def told(self, replies: Sequence[Reply]) -> str:
+        try:
+            return read_id(replies[0].text).line
+        except ValueError as fault:
+            raise OddWord(replies[0].line, replies[0].text) from fault
 
 
 class Newest(Call[Mark]):

@@ -194,7 +194,8 @@ class Forgotten(Unknown):
     into the archive of the log.
 
     `id` is that of the transaction that was asked about; of a key `key` alone, which an earlier commit may have, and where a
-    stop left this one's answer out the `id` of this one too.
+    stop left this one's answer out the `id` of this one too. A key that was told with its position, `since`, is forgotten only
+    where the log was shortened beyond that.
     """
 
     def __init__(self, id: Optional[str] = None, key: Optional[str] = None) -> None:

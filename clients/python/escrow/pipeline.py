@@ -31,8 +31,8 @@ from .errors import (
     Unknown,
 )
 from .holding import Holding
-from .keys import KeysUnderWay
-from .numbers import SHORT, change_of, front_of, line_id, read_id
+from .keys import CallerKey, KeysUnderWay
+from .numbers import SHORT, change_of, front_of, key_of, line_id, read_id
 from .reading import Reading
 from .values import Command, Kind, Share, Spared, Statement
 from .waiters import settle
@@ -140,7 +140,8 @@ class Pipeline:
         # The process, as it now stands.
         self.up = False
         self.may_forget = False
-        """Whether its log was shortened, or may be: then a commit that it hasn't got may have been let go of."""
+        """Whether its log was shortened, or may be: then a commit that it hasn't got may have been let go of, and a key is told
+        with its position."""
         self.dead: Optional[Down] = None
         """Why no call is taken any more."""
         self.epoch = 0
@@ -383,6 +384,18 @@ class Pipeline:
     def line_id(self, id: str) -> str:
         """How lines name the transaction of this id. Raises `OtherWorld`, `OtherSite`, and `ValueError` where it is none."""
         return line_id(self.world, self.number, id)
+
+    def caller_key(self, key: Optional[str], since: Optional[str]) -> CallerKey:
+        """A key, and its position, which is spelled as an id. Raises as `line_id`, and what is wrong with the key."""
+        if key is None:
+            raise TypeError("since tells the position of a key: there is no key")
+        return CallerKey(key_of(key), None if since is None else self.line_id(since))
+
+    def position(self) -> Optional[str]:
+        """The last transaction that went out to begin, as lines name it, or `EPOCH.0`: what begins from now on is behind it. None
+        where others begin some too."""
+        with self.lock:
+            return f"{self.epoch}.{self._numbers}"
 
     def standing(self, id: str) -> Standing:
         """Where a transaction stands in this process, by the lines that went out."""

@@ -166,6 +166,8 @@ class Turn:
                 reading.signal()
         if mine:
             self.desk.answer(mine)
+        elif not self._pipeline.under_way:  # nobody waits for the last of them: what the desk holds back goes out
+            self.desk.wake(())
 
     def _take(self) -> list[Call[Any]]:
         """Takes what there is: the calls of this loop. Others are settled at once."""

@@ -92,6 +92,9 @@ class SharedPipeline(Pipeline):
     def standing(self, id: str) -> Standing:
         return Standing.ENDED  # as the door has it, which knows of all
 
+    def position(self) -> Optional[str]:
+        return None
+
     def _doubted(self, call: Call[Any]) -> Optional[EscrowError]:
         if not self._is_direct or not any(call is it or (type(it) is Changes and call in it.calls) for it in self._untaken):
             return super()._doubted(call)

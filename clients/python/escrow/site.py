@@ -15,7 +15,7 @@ from types import MethodType
 from typing import Any, NoReturn, Optional, Union
 
 from .asking import ask, ask_behind_stop, async_ask_behind_stop, async_kept, end_of, id_of, is_kept, kept
-from .calls import Change, Kept, Line, Shape
+from .calls import Change, Kept, Line, Position, Shape
 from .connector import Connector
 from .desk import NEVER, Ask, Desks
 from .dropped import Closer, closer
@@ -23,8 +23,8 @@ from .errands import Errands
 from .errors import Down, Interrupted
 from .gauges import Gauges
 from .holding import Holding
-from .keys import KeptKey
-from .numbers import SHORT, amount_of, key_of, line_id, site_of
+from .keys import CallerKey, KeptKey
+from .numbers import SHORT, amount_of, line_id, site_of
 from .pipeline import Counts, Pipeline, Watch
 from .program import create, find_program, make_or_find
 from .records import Records
@@ -69,6 +69,7 @@ class Site:
         trace: bool = False,
         *,
         sync: bool = True,
+        keep: Optional[int] = None,
         not_before: Optional[Mark] = None,
         last_id: Optional[str] = None,
         metrics: Optional[Watch] = None,
@@ -82,7 +83,9 @@ class Site:
         """Serves the site of this folder, and returns once it stands.
 
         `program` is the path of `escrow_site` (see `find_program`). `trace` keeps a trace: from the first start on and
-        always, or never. `sync=False` doesn't sync the log: a stop of the machine may lose what was answered.
+        always, or never. `sync=False` doesn't sync the log: a stop of the machine may lose what was answered. With `keep` the
+        program lets go of the front of its log while it serves, but for at least so many bytes: then what is asked about what is
+        gone is `Forgotten`, and keys want their `since`. Without it a log only grows.
         `not_before` refuses a log that is older, and so does `last_id`: the newest id that the caller's own books have
         as committed. The log is asked for it once, before any other call, and a site whose log hasn't got it is closed; one
         that was shortened beyond it isn't older, and goes on.
@@ -96,12 +99,14 @@ class Site:
         Raises `Down` where it doesn't stand in time, at once where the folder or the log is refused (`status` 3), the
         command line is (2), the disk has a fault (5), or another `Site` of this machine has the folder (6); a disk that
         is full is waited for. `FileNotFoundError` where no program is named and none is found, `ValueError` where
-        `last_id` is no id, and `OtherWorld` where it is one of another world.
+        `last_id` is no id or `keep` below 0, and `OtherWorld` where the id is one of another world.
         """
         self.folder = os.path.abspath(os.fspath(folder))
         self.number, self.world, self.schema = identity(self.folder)
         if last_id is not None:
             line_id(self.world[:SHORT], self.number, last_id)
+        options = (*(("--trace",) if trace else ()), *(() if sync else ("--no-sync",)))
+        options += () if keep is None else ("--keep", str(amount_of(keep)))
         self.metrics, self.timeout = metrics, timeout
         self.on_statement: list[Callable[[Statement], object]] = []
         """Called with each statement that is issued, in a thread of its own, in order: it has to reach its receiver."""
@@ -116,7 +121,6 @@ class Site:
         holding, issued = Holding(held, self._clock.after, self.folder), weakly(self._issued)
         self.pipeline = Pipeline(self.number, self.world, names, issued, metrics, holding, most_waiting)
         self._steps = Steps(self.pipeline, self.folder, self._program)
-        options = (*(("--trace",) if trace else ()), *(() if sync else ("--no-sync",)))
         orders = Orders(self.folder, (self._program, "serve", self.folder, *options), backoff, patience)
         self._supervisor = Supervisor(orders, self.pipeline, weakly(self._started), metrics, not_before)
         keep_watch(self, closer)
@@ -269,7 +273,7 @@ class Site:
 
     def change(
         self, field: str, change: int, before: Optional[Before] = None, *, key: Optional[str] = None,
-        timeout: Optional[float] = None,
+        since: Optional[str] = None, timeout: Optional[float] = None,
     ) -> str:  # fmt: skip
         """A transaction of one change in one trip: the id, once it is committed.
 
@@ -291,14 +295,16 @@ class Site:
         short by now: `Short` is told where no commit has the key by then. Where another call of this process with the key is
         under way, that is `Busy`: it may commit yet; those of other processes, behind a door, aren't seen. It takes two
         trips, since the commit of a change that was refused would note the key, and holds a place between them. What `before`
-        was told is the id of this call, which isn't committed where an earlier one was. Over a log that lets go of its front
-        the key is asked about first, in a third trip: **where it may have been let go of that is `Forgotten`, with the key, and
-        nothing is sold**, nor `before` called. Raises `NoKeys` where the program doesn't know keys, with nothing committed;
-        `ValueError` or `TypeError`, with nothing asked, where it is none.
+        was told is the id of this call, which isn't committed where an earlier one was. Over a log that was shortened **it is
+        `Forgotten`, with the key, and nothing is sold, where the log may have let go of an earlier commit with it**. So where
+        that is done give `since` too: what `position` told, and your own books had beside the order, before it was first asked
+        for. Then a new order is told from one that was let go of; without it none is. Raises `NoKeys` where the program doesn't
+        know keys, with nothing committed; `ValueError` or `TypeError`, with nothing committed, where it is no key, or no
+        position that was taken before.
         """
         end = end_of(timeout, self.timeout)
-        if key is not None:
-            return self._change_once(field, change, before, key_of(key), end)
+        if key is not None or since is not None:
+            return self._change_once(field, change, before, self.pipeline.caller_key(key, since), end)
         if before is not None:
             return self._change_behind(before, field, change, end)
         shape = self.pipeline.shape(field, change)
@@ -319,22 +325,35 @@ class Site:
             if t.only(field, change, before, end):
                 return t.id
 
-    def _change_once(self, field: str, change: int, before: Optional[Before], key: str, end: float) -> str:
-        with self.pipeline.keys.one(key):
+    def _change_once(self, field: str, change: int, before: Optional[Before], key: CallerKey, end: float) -> str:
+        with self.pipeline.keys.one(key.word):
             while True:
                 id = self.transaction().once(field, change, before, key, end)
                 if id is not None:
                     return id
 
-    def kept_key(self, key: str, *, timeout: Optional[float] = None) -> Optional[str]:
+    def position(self, *, timeout: Optional[float] = None) -> str:
+        """Where this site is now, for the `since` of a key: its newest transaction, or `..-EPOCH.0` where none was begun since its
+        start. Write it down beside the order **before the order is first asked for**, and give that one each time: each commit with
+        the key is then of a transaction behind it.
+
+        It asks nothing, and doesn't wait; over a door that is asked, which raises `Down`, and `Busy` where its time was up.
+        """
+        known = self.pipeline.position()
+        end = end_of(timeout, self.timeout)
+        return self.pipeline.front + (ask(self.pipeline, Position(), end) if known is None else known)
+
+    def kept_key(self, key: str, *, since: Optional[str] = None, timeout: Optional[float] = None) -> Optional[str]:
         """The id of the commit that has this key at this site; None where none has it by now, though a call that is under way
         may commit with it yet. It has it as long as the log is there: neither a new world nor an older copy of the log has.
 
-        Raises `Forgotten` where the log was shortened, and a commit with the key may be among what it let go of; `ValueError` or
-        `TypeError` where it is no key, with nothing asked; `NoKeys`; `Down`; `Busy` where its time was up: ask again; `Faulty`
-        where the answer is none that this client knows.
+        Raises `Forgotten` where the log was shortened, and a commit with the key may be among what it let go of: with `since`, as of
+        `change`, where it was shortened beyond that position. `ValueError` or `TypeError` where it is no key, or no position of
+        this site so far; `Unknown` where that is of a later start than any that this log has; `NoKeys`; `Down`; `Busy` where its
+        time was up: ask again; `Faulty` where the answer is none that this client knows.
         """
-        return id_of(self.pipeline, ask(self.pipeline, KeptKey(key_of(key)), end_of(timeout, self.timeout)))
+        asked = KeptKey(self.pipeline.caller_key(key, since))
+        return id_of(self.pipeline, ask(self.pipeline, asked, end_of(timeout, self.timeout)))
 
     def give(self, to: int, field: str, kind: Kind, amount: int, *, timeout: Optional[float] = None) -> Statement:
         """Gives free rights of a kind to another site: the statement that has to reach it.
@@ -565,15 +584,15 @@ class AsyncSite:
 
     async def change(
         self, field: str, change: int, before: Optional[Before] = None, *, key: Optional[str] = None,
-        timeout: Optional[float] = None,
+        since: Optional[str] = None, timeout: Optional[float] = None,
     ) -> str:  # fmt: skip
         """As `Site.change`. `before` is called in the loop; what it returns is awaited where it can be, as that of an
         `async def`."""
         if timeout is None:
             timeout = self.timeout
         end = NEVER if timeout is None else time.monotonic() + timeout
-        if key is not None:
-            return await self._change_once(field, change, before, key_of(key), end)
+        if key is not None or since is not None:
+            return await self._change_once(field, change, before, self._pipeline.caller_key(key, since), end)
         if before is not None:
             return await self._change_behind(before, field, change, end)
         shape = self._shapes.get((field, change)) if type(change) is int else None
@@ -598,16 +617,23 @@ class AsyncSite:
             if await t.only(field, change, before, end):
                 return t.id
 
-    async def _change_once(self, field: str, change: int, before: Optional[Before], key: str, end: float) -> str:
-        with self._pipeline.keys.one(key):
+    async def _change_once(self, field: str, change: int, before: Optional[Before], key: CallerKey, end: float) -> str:
+        with self._pipeline.keys.one(key.word):
             while True:
                 id = await self.transaction().once(field, change, before, key, end)
                 if id is not None:
                     return id
 
-    async def kept_key(self, key: str, *, timeout: Optional[float] = None) -> Optional[str]:
+    async def position(self, *, timeout: Optional[float] = None) -> str:
+        """As `Site.position`."""
+        known = self._pipeline.position()
+        end = end_of(timeout, self.timeout)
+        return self._pipeline.front + (await self._ask(Position(), end) if known is None else known)
+
+    async def kept_key(self, key: str, *, since: Optional[str] = None, timeout: Optional[float] = None) -> Optional[str]:
         """As `Site.kept_key`."""
-        return id_of(self._pipeline, await self._ask(KeptKey(key_of(key)), end_of(timeout, self.timeout)))
+        asked = KeptKey(self._pipeline.caller_key(key, since))
+        return id_of(self._pipeline, await self._ask(asked, end_of(timeout, self.timeout)))
 
     async def _was_made(self, change: Change, end: float) -> bool:
         """Whether it was made, though a stop left its answer out. Raises the answer where there is one."""

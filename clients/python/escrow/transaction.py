@@ -13,8 +13,8 @@ from .calls import Abort, Call, Commit, First, GiveBack, Later, Run
 from .desk import Ask
 from .errands import Entry, Errands
 from .errors import Busy, Cause, Down, Interrupted, Lost, Over, Refused, Unknown, gone, over
-from .keys import ANOTHER, KeptKey, KeyedCommit
-from .numbers import amount_of, change_of, key_of
+from .keys import ANOTHER, CallerKey, KeptKey, KeyedCommit
+from .numbers import amount_of, change_of
 from .pipeline import Pipeline
 from .values import Outcome
 
@@ -56,12 +56,17 @@ class BaseTransaction:
         self._limit: Optional[Entry] = None
         self._granted = 0
         self.line_id = self.id = ""
-        self.key: Optional[str] = None
+        self._key: Optional[CallerKey] = None
 
     @property
     def state(self) -> State:
         """Where it stands, as far as this client knows."""
         return self._state
+
+    @property
+    def key(self) -> Optional[str]:
+        """The key that it is to be committed with, where there is one."""
+        return None if self._key is None else self._key.word
 
     # What the calls ask, under the pipeline's lock.
 
@@ -185,11 +190,20 @@ class BaseTransaction:
             raise self._gone()
         return self.id
 
-    def _ends_with(self, key: Optional[str]) -> None:
-        """It is to be committed, with this key where there is one: so it is from now on. Raises what is wrong with the key."""
-        if key is not None:
-            self.key = key_of(key)
+    def _ends_with(self, key: Optional[str], since: Optional[str]) -> Optional[CallerKey]:
+        """It is to be committed, with this key where there is one: so it is from now on. Its key, also one of an earlier try. Raises
+        what is wrong with the key, or with its position."""
+        if key is not None or since is not None:
+            told = self._pipeline.caller_key(key, since)
+            self._check_behind(told)
+            self._key = told
         self._is_told = True
+        return self._key
+
+    def _check_behind(self, key: CallerKey) -> None:
+        """Raises where it has begun, and isn't behind the position of the key."""
+        if self.id:
+            key.check_ahead_of(self.line_id)
 
     def _found(self, is_kept: bool) -> None:
         """What a stop left of a commit. Raises `Lost` where it isn't kept, and there was something to commit."""
@@ -247,7 +261,7 @@ class Transaction(BaseTransaction):
             raise self._gone() from None
         self._granted += 1
 
-    def commit(self, *, key: Optional[str] = None, timeout: Optional[float] = None) -> str:
+    def commit(self, *, key: Optional[str] = None, since: Optional[str] = None, timeout: Optional[float] = None) -> str:
         """Makes the changes permanent: the id.
 
         Raises `Lost` or `Over` where nothing was committed, and never will be; `Unknown` where a stop left the answer
@@ -258,17 +272,18 @@ class Transaction(BaseTransaction):
         changed, what was set aside is given back, and the id is that of the earlier one. So after anything, `Unknown` too,
         all may be done again, with the same key. Where `lower` is `Short` then, ask `Site.kept_key` before you tell anybody.
         A key is kept where something was set aside. Where nothing was ever asked the id is that of the commit that has the
-        key, or empty. Raises `Forgotten`, with the key and nothing committed, where the log was shortened and an earlier commit
-        may have the key; `NoKeys` with nothing committed, and `ValueError` or `TypeError` where it is no key: then
-        nothing was asked, and the transaction is open.
+        key, or empty. `since` is the key's position, from `Site.position` **before this transaction began**. Raises
+        `Forgotten`, with the key and nothing committed, where the log was shortened beyond it and an earlier commit may have
+        the key; `NoKeys` with nothing committed, and `ValueError` or `TypeError` where it is no key, or no position ahead
+        of the transaction: then nothing was asked, and the transaction is open.
         """
         end = end_of(timeout, self._timeout)
-        self._ends_with(key)
+        told = self._ends_with(key, since)
         if self._unbegun():
-            return self._never_begun(end)
+            return "" if told is None else self._of_key(ask(self._pipeline, KeptKey(told), end))
         try:
-            if self.key is not None:
-                return self._commit_once(self.key, end)
+            if told is not None:
+                return self._commit_once(told, end)
             ask(self._pipeline, Commit(self), end)
         except Interrupted:
             self._found(kept(self._pipeline, self._begun(), end) is Outcome.COMMITTED)
@@ -277,36 +292,13 @@ class Transaction(BaseTransaction):
             raise
         return self.id
 
-    def _never_begun(self, end: float) -> str:
-        return "" if self.key is None else self._of_key(ask(self._pipeline, KeptKey(self.key), end))
-
-    def _commit_once(self, key: str, end: float) -> str:
-        earlier = self._kept_before(key, end)
-        if earlier is not None:
-            return earlier
+    def _commit_once(self, key: CallerKey, end: float) -> str:
         try:
             return self._of_key(ask(self._pipeline, KeyedCommit(self, key), end))
         except Interrupted:
             id = kept_with(self._pipeline, key, self.id, end)
             self._found(id is not None)
             return id or self.id
-
-    def _kept_before(self, key: str, end: float) -> Optional[str]:
-        """The id of the commit that has this key already, where the log may let go of some: then this one is aborted. To the
-        commit itself a program that has let go of a key is as one that never had it, so it would be sold a second time. Raises
-        `Forgotten` where an earlier one may have the key, and what else the question does: aborted too, but for `Busy`."""
-        if not self._pipeline.may_forget:
-            return None
-        try:
-            line_id = ask(self._pipeline, KeptKey(key), end)
-        except Busy:
-            raise
-        except BaseException:
-            self._abort(end)
-            raise
-        if line_id is not None:
-            self._abort(end)
-        return id_of(self._pipeline, line_id)
 
     def abort(self, *, timeout: Optional[float] = None) -> None:
         """Gives the rights back. Does nothing where the transaction has ended, as by a stop of the site. Raises
@@ -340,22 +332,15 @@ class Transaction(BaseTransaction):
             raise
         return True
 
-    def once(self, field: str, change: int, before: Optional[Before], key: str, end: float) -> Optional[str]:
+    def once(self, field: str, change: int, before: Optional[Before], key: CallerKey, end: float) -> Optional[str]:
         """This change alone, committed with a key: the id of the commit that has it, by this end, which may be an earlier one.
         None where a stop of the site ended this one, and none has it. Raises as `only`."""
-        self.key = key
+        self._key = key
         try:
-            self._alone(field, change, end)
+            self._alone(field, change, end, key)
         except Refused as fault:
-            has_others = self._pipeline.keys.has_others(key)  # asked ahead of what is kept: it may commit in between
+            has_others = self._pipeline.keys.has_others(key.word)  # asked ahead of what is kept: it may commit in between
             return self._kept_or(fault, ask(self._pipeline, KeptKey(key), end), has_others)
-        try:
-            earlier = self._kept_before(key, end)
-        except Busy:
-            self._abort(end)
-            raise
-        if earlier is not None:
-            return earlier
         if before is not None:
             self._tell(before, end)
         try:
@@ -368,10 +353,12 @@ class Transaction(BaseTransaction):
             self._abort(end)
             raise
 
-    def _alone(self, field: str, change: int, end: float) -> None:
-        """Sets its only change aside. Ends it where that can't be."""
+    def _alone(self, field: str, change: int, end: float, key: Optional[CallerKey] = None) -> None:
+        """Sets its only change aside. Ends it where that can't be, or it isn't behind the position of the key."""
         try:
             self._set_aside(field, change, end)
+            if key is not None:
+                self._check_behind(key)
         except BaseException:
             self._abort(end)
             raise
@@ -430,15 +417,17 @@ class AsyncTransaction(BaseTransaction):
             raise self._gone() from None
         self._granted += 1
 
-    async def commit(self, *, key: Optional[str] = None, timeout: Optional[float] = None) -> str:
+    async def commit(
+        self, *, key: Optional[str] = None, since: Optional[str] = None, timeout: Optional[float] = None
+    ) -> str:
         """As `Transaction.commit`."""
         end = end_of(timeout, self._timeout)
-        self._ends_with(key)
+        told = self._ends_with(key, since)
         if self._unbegun():
-            return await self._never_begun(end)
+            return "" if told is None else self._of_key(await self._ask(KeptKey(told), end))
         try:
-            if self.key is not None:
-                return await self._commit_once(self.key, end)
+            if told is not None:
+                return await self._commit_once(told, end)
             await self._ask(Commit(self), end)
         except Interrupted:
             self._found(await async_kept(self._pipeline, self._ask, self._begun(), end) is Outcome.COMMITTED)
@@ -447,34 +436,13 @@ class AsyncTransaction(BaseTransaction):
             raise
         return self.id
 
-    async def _never_begun(self, end: float) -> str:
-        return "" if self.key is None else self._of_key(await self._ask(KeptKey(self.key), end))
-
-    async def _commit_once(self, key: str, end: float) -> str:
-        earlier = await self._kept_before(key, end)
-        if earlier is not None:
-            return earlier
+    async def _commit_once(self, key: CallerKey, end: float) -> str:
         try:
             return self._of_key(await self._ask(KeyedCommit(self, key), end))
         except Interrupted:
             id = await async_kept_with(self._pipeline, self._ask, key, self.id, end)
             self._found(id is not None)
             return id or self.id
-
-    async def _kept_before(self, key: str, end: float) -> Optional[str]:
-        """As `Transaction._kept_before`."""
-        if not self._pipeline.may_forget:
-            return None
-        try:
-            line_id = await self._ask(KeptKey(key), end)
-        except Busy:
-            raise
-        except BaseException:
-            await self._abort(end)
-            raise
-        if line_id is not None:
-            await self._abort(end)
-        return id_of(self._pipeline, line_id)
 
     async def abort(self, *, timeout: Optional[float] = None) -> None:
         """As `Transaction.abort`."""
@@ -505,21 +473,16 @@ class AsyncTransaction(BaseTransaction):
             raise
         return True
 
-    async def once(self, field: str, change: int, before: Optional[Before], key: str, end: float) -> Optional[str]:
+    async def once(
+        self, field: str, change: int, before: Optional[Before], key: CallerKey, end: float
+    ) -> Optional[str]:
         """As `Transaction.once`; what `before` returns is awaited where it can be."""
-        self.key = key
+        self._key = key
         try:
-            await self._alone(field, change, end)
+            await self._alone(field, change, end, key)
         except Refused as fault:
-            has_others = self._pipeline.keys.has_others(key)  # asked ahead of what is kept: it may commit in between
+            has_others = self._pipeline.keys.has_others(key.word)  # asked ahead of what is kept: it may commit in between
             return self._kept_or(fault, await self._ask(KeptKey(key), end), has_others)
-        try:
-            earlier = await self._kept_before(key, end)
-        except Busy:
-            await self._abort(end)
-            raise
-        if earlier is not None:
-            return earlier
         if before is not None:
             await self._tell(before, end)
         try:
@@ -532,10 +495,12 @@ class AsyncTransaction(BaseTransaction):
             await self._abort(end)
             raise
 
-    async def _alone(self, field: str, change: int, end: float) -> None:
+    async def _alone(self, field: str, change: int, end: float, key: Optional[CallerKey] = None) -> None:
         """As `Transaction._alone`."""
         try:
             await self._set_aside(field, change, end)
+            if key is not None:
+                self._check_behind(key)
         except BaseException:
             await self._abort(end)
             raise

@@ -1,5 +1,5 @@
 #!/usr/bin/env python3
-"""Stands in for the `escrow_site` of the next release, whose log lets go of its front: today's never does.
+"""Stands in for an `escrow_site` whose log lets go of its front: at once, at a word of the test, and where a test wants it.
 
 It serves a folder that the real one has made, and keeps what it commits in FOLDER/commits. FOLDER/told, which a test writes
 at any time, tells in JSON how it answers:
@@ -12,7 +12,9 @@ at any time, tells in JSON how it answers:
     stop        at the next commit it ends without an answer: `ahead` of it, or `behind` it
     then        how it answers from that stop on
 
-As the real one will, it makes a commit whose key was let go of: it can't know of it. `show FOLDER` tells 1000 bytes as let go.
+A key may be told with its position, `key KEY since EPOCH.NUMBER`: one that isn't held is `forgotten` only where the horizon is
+beyond that, and without a position wherever there is one. A commit with a key that is held or forgotten isn't made. All lines that
+it takes are in FOLDER/lines. `show FOLDER` tells 1000 bytes as let go.
 """
 
 from __future__ import annotations
@@ -97,15 +99,17 @@ class Forgetful:
 
     def answer(self, line: str) -> str:
         """What a line is answered, the line in front of it."""
+        with open(os.path.join(self._folder, "lines"), "a", encoding="ascii") as file:
+            file.write(f"{line}\n")
         words, told = line.split(" "), read_told(self._folder)
         if words[0] == "kept":
             time.sleep(told.get("slow", 0.0))
         if words[:2] == ["kept", "key"]:
-            return f"{line} -> {told.get('word') or self._kept_key(words[2], told)}"
+            return f"{line} -> {told.get('word') or self._kept_key(words[2:], told)}"
         if words[0] == "kept":
             return f"{line} -> {told.get('word') or self._kept(id_of(words[1]), told)}"
         if words[1] == "commit":
-            return self._commit(" ".join(words[:3]), id_of(words[2]), words[4] if len(words) > 3 else "", told)
+            return self._commit(" ".join(words[:3]), id_of(words[2]), words[4:], told)
         return f"{line} -> {self._reply(words)}"
 
     def _is_gone(self, id: ID, told: dict[str, Any]) -> bool:
@@ -120,20 +124,22 @@ class Forgetful:
         held = [it.id for it in self._commits if it.key == key and not self._is_gone(it.id, told)]
         return held[-1] if held else None
 
-    def _kept_key(self, key: str, told: dict[str, Any]) -> str:
-        holder = self._holder(key, told)
+    def _kept_key(self, words: list[str], told: dict[str, Any]) -> str:
+        """By the key, and behind it `since` and its position, where one is told."""
+        holder = self._holder(words[0], told)
         if holder is not None:
             return spelled(holder)
-        return "forgotten" if "horizon" in told else "no"
+        is_let_go = "horizon" in told and (len(words) < 3 or id_of(words[2]) < tuple(told["horizon"]))
+        return "forgotten" if is_let_go else "no"
 
-    def _commit(self, line: str, id: ID, key: str, told: dict[str, Any]) -> str:
-        holder = self._holder(key, told) if key else None
-        if holder is not None or (key and "keyed" in told):
-            return f"kept key {key} -> {told.get('keyed') or spelled(holder or id)}"
+    def _commit(self, line: str, id: ID, words: list[str], told: dict[str, Any]) -> str:
+        kept = told.get("keyed") or self._kept_key(words, told) if words else "no"
+        if kept != "no":
+            return f"kept key {words[0]} -> {kept}"
         if id not in self._open:
             return f"{line} -> refused 4 no transaction"
         if told.get("stop") != "ahead":
-            self._keep(Commit(id, self._open[id], key))
+            self._keep(Commit(id, self._open[id], words[0] if words else ""))
         if "stop" in told:
             tell(self._folder, **told.get("then", {}))
             sys.exit(1)

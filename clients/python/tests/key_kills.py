@@ -1,11 +1,14 @@
 """Kills a door, its site and the processes that ask for orders through it, so many times, and then judges by the log: each order
 that was told is in it once, under the id that everybody was told.
 
-    key_kills.py [KILLS [SEED]]
+    key_kills.py [--keep BYTES] [KILLS [SEED]]
 
 KILLS (1000) is how often any of them is killed by SIGKILL, or stands still for a moment (SIGSTOP); SEED (1) is of the moments.
 Four processes of 16 tasks each ask for orders by `change(.., key=)`; each order is asked for by two of them, and again by
 one that was killed. Ends with status 1 where an order isn't sold once.
+
+With --keep the log is shortened meanwhile. Then each order has its position in books that all of them share, written before it
+is first asked for; and in place of the log what is left to sell tells how many were sold.
 """
 
 from __future__ import annotations
@@ -17,21 +20,51 @@ import os
 import random
 import re
 import signal
+import sqlite3
 import subprocess
 import sys
 import tempfile
 import threading
 import time
+from typing import Optional
 
 from doors import Door, children_of
 from programs import LARGE, PACKAGES, WORLD, escrow_site
 import escrow
 
 MANY, TASKS = 4, 16
+FREE = 500_000
+"""What the site has to sell."""
 
 
-async def ask_for_all(path: str, shelf: str, first: int) -> None:
-    """Asks for orders of a shelf from this one on, until standard input ends: a line `KEY ID` for each that is sold."""
+class Books:
+    """The position of each order, where the log is shortened: in a file that all processes share."""
+
+    def __init__(self, path: str) -> None:
+        self._table = sqlite3.connect(path, isolation_level=None, timeout=60.0) if path else None
+        if self._table is not None:
+            self._table.execute("pragma synchronous = off")  # no machine is stopped
+            self._table.execute("create table if not exists orders (key text primary key, position text)")
+
+    def write(self, key: str, position: str) -> str:
+        """That of an order: this one where it has none yet."""
+        assert self._table is not None
+        self._table.execute("insert or ignore into orders values (?, ?)", (key, position))
+        found: str = self._table.execute("select position from orders where key = ?", (key,)).fetchone()[0]
+        return found
+
+    def all(self) -> dict[str, str]:
+        """Of all orders that were ever asked for."""
+        return {} if self._table is None else dict(self._table.execute("select key, position from orders").fetchall())
+
+    async def since(self, shop: escrow.AsyncSite, key: str) -> Optional[str]:
+        """What to ask for an order with."""
+        return None if self._table is None else self.write(key, await shop.position(timeout=0.5))
+
+
+async def ask_for_all(path: str, shelf: str, first: int, books: Books) -> None:
+    """Asks for orders of a shelf from this one on, until standard input ends: a line `KEY ID` for each that is sold, and `KEY -` where
+    nobody can tell any more."""
     numbers, ends = itertools.count(first), threading.Event()
 
     def wait_for_end() -> None:
@@ -45,7 +78,11 @@ async def ask_for_all(path: str, shelf: str, first: int) -> None:
             key = f"{shelf}-{next(numbers)}"
             while not ends.is_set():
                 try:
-                    print(key, await shop.change("stock", -1, key=key, timeout=0.5), flush=True)
+                    since = await books.since(shop, key)
+                    print(key, await shop.change("stock", -1, key=key, since=since, timeout=0.5), flush=True)
+                    break
+                except escrow.Forgotten:
+                    print(key, "-", flush=True)
                     break
                 except escrow.EscrowError:
                     await asyncio.sleep(0.01)
@@ -57,9 +94,9 @@ async def ask_for_all(path: str, shelf: str, first: int) -> None:
 class Asker:
     """A process that asks for orders: what it was told."""
 
-    def __init__(self, path: str, shelf: str, first: int) -> None:
-        self.path, self.shelf, self.told = path, shelf, dict[str, str]()
-        words = [sys.executable, os.path.abspath(__file__), "--ask", path, shelf, str(first)]
+    def __init__(self, path: str, shelf: str, first: int, books: str) -> None:
+        self.path, self.shelf, self.books, self.told = path, shelf, books, dict[str, str]()
+        words = [sys.executable, os.path.abspath(__file__), "--ask", path, shelf, str(first), books]
         env = {**os.environ, "PYTHONPATH": PACKAGES}
         self.process = subprocess.Popen(words, stdin=subprocess.PIPE, stdout=subprocess.PIPE, text=True, env=env)
         self._reader = threading.Thread(target=self._read)
@@ -119,16 +156,52 @@ def kill_one(door: Door, askers: list[Asker], all_told: list[dict[str, str]], lu
         number = luck.randrange(MANY)
         old = askers[number]
         all_told.append(old.end(True))
-        askers[number] = Asker(old.path, old.shelf, old.next())
+        askers[number] = Asker(old.path, old.shelf, old.next(), old.books)
+
+
+def ids_of(all_told: list[dict[str, str]]) -> dict[str, set[str]]:
+    """Of each order the ids that it was told to have."""
+    told: dict[str, set[str]] = {}
+    for each in all_told:
+        for key, id in each.items():
+            told.setdefault(key, set()).add(id.rpartition("-")[2])
+    return told
+
+
+def asked_again(site: escrow.Site, key: str, position: str, ids: set[str]) -> tuple[str, bool]:
+    """What the site tells of an order by now, and whether that fits the ids that callers were told."""
+    try:
+        kept = site.kept_key(key, since=position)
+    except escrow.Forgotten:
+        return ("gone", len(ids) == 1) if ids else ("gone, told to nobody", True)
+    if kept is None:
+        return "never sold", not ids
+    return "held", ids <= {kept.rpartition("-")[2]}
+
+
+def judge_shortened(folder: str, all_told: list[dict[str, str]], counts: dict[str, int], since: dict[str, str]) -> bool:
+    """The same where the log was shortened. Each order is asked about once more."""
+    told, words, wrong = ids_of(all_told), dict.fromkeys(("held", "gone", "gone, told to nobody", "never sold"), 0), 0
+    with escrow.Site(folder, program=escrow_site(), keep=0) as site:
+        sold = FREE - site.share("stock").lower
+        for key, position in since.items():
+            word, fits = asked_again(site, key, position, told.get(key, set()) - {""})
+            words[word] += 1
+            wrong += not fits
+    gone = escrow.show(folder, escrow_site()).gone
+    surely = words["held"] + words["gone"]
+    print(f"killed or still: {counts}; {gone} bytes let go")
+    print(f"orders asked for {len(since)}: {words}; sold {sold}, by {sum(map(len, all_told))} answers")
+    print(f"orders told with another id than the log's, or with two, or told as sold and not kept {wrong}")
+    if not gone:
+        print("so little was sold that the log wasn't shortened: take more kills")
+    return not wrong and gone > 0 and surely <= sold <= surely + words["gone, told to nobody"]
 
 
 def judge(folder: str, all_told: list[dict[str, str]], counts: dict[str, int]) -> bool:
     """Prints what was told and what is so: whether they fit."""
     keys, commits = sold_in(folder)
-    told: dict[str, set[str]] = {}
-    for each in all_told:
-        for key, id in each.items():
-            told.setdefault(key, set()).add(id.rpartition("-")[2])
+    told = ids_of(all_told)
     twice = sum(len(txns) > 1 for txns in keys.values())
     wrong = sum(ids != set(keys.get(key, ())) for key, ids in told.items())
     print(f"killed or still: {counts}")
@@ -139,23 +212,27 @@ def judge(folder: str, all_told: list[dict[str, str]], counts: dict[str, int]) -
 
 def main() -> int:
     if sys.argv[1:2] == ["--ask"]:
-        asyncio.run(ask_for_all(sys.argv[2], sys.argv[3], int(sys.argv[4])))
+        asyncio.run(ask_for_all(sys.argv[2], sys.argv[3], int(sys.argv[4]), Books(sys.argv[5])))
         return 0
     parser = argparse.ArgumentParser(description="Kills a door, its site and processes that ask for orders by keys.")
     parser.add_argument("kills", type=int, nargs="?", default=1000)
     parser.add_argument("seed", type=int, nargs="?", default=1)
+    parser.add_argument("--keep", type=int, metavar="BYTES")
     given = parser.parse_args()
     with tempfile.TemporaryDirectory(prefix="escrow-kills-") as place:
         folder, began, luck = os.path.join(place, "shop"), time.monotonic(), random.Random(given.seed)
         escrow.create(folder, LARGE, 0, program=escrow_site(), name=WORLD)
-        door, counts = Door(folder, os.path.join(place, "door")), dict.fromkeys(("door", "site", "process", "still"), 0)
-        askers, told = [Asker(door.path, "AB"[number % 2], 0) for number in range(MANY)], list[dict[str, str]]()
+        words, books = ([], "") if given.keep is None else (["--keep", str(given.keep)], os.path.join(place, "books"))
+        table = Books(books)
+        door, counts = Door(folder, os.path.join(place, "door"), *words), dict.fromkeys(("door", "site", "process", "still"), 0)
+        askers, told = [Asker(door.path, "AB"[number % 2], 0, books) for number in range(MANY)], list[dict[str, str]]()
         while sum(counts.values()) < given.kills:
             kill_one(door, askers, told, luck, counts)
         time.sleep(1.0)
         told += [it.end(False) for it in askers]
         is_well = door.close() == 0
-        is_well = judge(folder, told, counts) and is_well
+        fits = judge_shortened(folder, told, counts, table.all()) if books else judge(folder, told, counts)
+        is_well = fits and is_well
         print(f"{'well' if is_well else 'NOT WELL'}: {given.kills} in {time.monotonic() - began:.0f} seconds")
     return 0 if is_well else 1
 

@@ -1,5 +1,5 @@
-"""A log that lets go of its front, over `forgetful_site.py`, which stands in for the program of the next release: what it has
-let go of is neither sold nor not sold, and nothing is sold twice by it."""
+"""A log that lets go of its front, over `forgetful_site.py`, which stands in for the program: what it has let go of is neither sold
+nor not sold, and nothing is sold twice by it. `test_shortened` is the same over the real program."""
 
 from __future__ import annotations
 
@@ -27,6 +27,11 @@ PROGRAM = os.path.join(os.path.dirname(os.path.abspath(__file__)), "forgetful_si
 QUICK = escrow.Backoff(0.02, 0.1)
 STOCK = escrow.Schema(2, SHOP.fields[:1])
 Does = Callable[[], object]
+
+
+def numbers_of(id: str) -> list[int]:
+    """The epoch that an id or a position tells, and the number in it."""
+    return [int(word) for word in id.rpartition("-")[2].split(".")]
 
 
 class ForgetfulTest(DoorTest):
@@ -146,7 +151,7 @@ class OverFolderTest(ForgetfulTest):
         folder = self.forgetful()
         site = self.opened_site(folder)
         id = site.change("stock", -3, key="order")
-        tell(folder, word="perhaps")
+        tell(folder, word="perhaps", keyed="perhaps")
         calls: list[Does] = [
             lambda: site.outcome(id), lambda: site.kept_key("order"), lambda: site.change("stock", -3, key="order"),
             lambda: asyncio.run(escrow.AsyncSite(site).outcome(id)),
@@ -186,7 +191,7 @@ class OverFolderTest(ForgetfulTest):
 
 
 class KeysOverFolderTest(ForgetfulTest):
-    """A key that was let go of is never sold a second time, though the program would."""
+    """A key that was let go of is never sold a second time."""
 
     def test_once_while_it_is_held(self) -> None:
         folder = self.forgetful()
@@ -238,8 +243,19 @@ class KeysOverFolderTest(ForgetfulTest):
             fault = self.forgets(does)
             self.assertEqual((fault.id, fault.key), (None, "order"))
             self.assertIn("key order", str(fault))
-        self.assertEqual((told, self.sold(folder)), ([], [(of_shop("1.1"), -3)]))
+        self.assertEqual(self.sold(folder), [(of_shop("1.1"), -3)])
+        tell(folder)
+        self.assertEqual([site.outcome(id) for id in told], [Outcome.NOT_COMMITTED] * 2)
         self.is_quiet(site, 17)
+
+    def test_a_new_one_without_its_position(self) -> None:
+        """Nobody can tell that it is new."""
+        folder = self.forgetful(horizon=[0, 9])
+        site = self.opened_site(folder)
+        self.assertEqual(self.forgets(lambda: site.change("stock", -3, key="new")).key, "new")
+        self.assertEqual(self.forgets(lambda: site.kept_key("new")).key, "new")
+        self.assertEqual(self.sold(folder), [])
+        self.is_quiet(site, 20)
 
     def test_a_program_that_tells_it_at_the_commit(self) -> None:
         folder = self.forgetful(version=1, keyed="forgotten")
@@ -293,21 +309,17 @@ class KeysOverFolderTest(ForgetfulTest):
         self.assertEqual(self.sold(folder), [(of_shop("1.1"), -3), (of_shop("3.1"), -2)])
 
     def test_a_question_that_is_not_answered_in_time(self) -> None:
-        """Nothing was committed, and what was set aside comes back; a transaction stays open."""
         folder = self.forgetful(slow=0.6)
         site = self.opened_site(folder)
-        with self.assertRaises(escrow.Busy):
-            site.change("stock", -3, key="order", timeout=0.2)
-        self.is_quiet(site, 20)
-        with self.assertRaises(escrow.Busy):
-            asyncio.run(escrow.AsyncSite(site).change("stock", -3, key="order", timeout=0.2))
-        self.is_quiet(site, 20)
-        t = site.transaction()
-        t.lower("stock", 3)
-        with self.assertRaises(escrow.Busy):
-            t.commit(key="order", timeout=0.2)
-        tell(folder)
-        self.assertEqual((t.commit(key="order"), self.sold(folder)), (t.id, [(t.id, -3)]))
+        calls: list[Does] = [
+            lambda: site.change("stock", -300, key="order", timeout=0.2), lambda: site.kept_key("order", timeout=0.2),
+            lambda: asyncio.run(escrow.AsyncSite(site).change("stock", -300, key="order", timeout=0.2)),
+        ]  # fmt: skip
+        for does in calls:
+            with self.assertRaises(escrow.Busy):
+                does()
+            self.is_quiet(site, 20)
+        self.assertEqual(self.sold(folder), [])
 
 
 class LastIdTest(ForgetfulTest):
@@ -340,6 +352,240 @@ class LastIdTest(ForgetfulTest):
         self.assertIn("'perhaps'", str(raised.exception))
 
 
+class PositionsOverFolderTest(ForgetfulTest):
+    """Keys with their positions: a new one is sold over a shortened log, and one that was let go of never again."""
+
+    def lines(self, folder: str, word: str) -> list[str]:
+        """The lines that have this word, as the program took them."""
+        with open(os.path.join(folder, "lines"), encoding="ascii") as file:
+            return [line for line in file.read().split("\n") if word in line.split(" ")]
+
+    def sales(self, site: escrow.Site) -> dict[str, Callable[[str, str], str]]:
+        """Calls that sell 1 by a key and its position: the id."""
+
+        def commits(key: str, since: str) -> str:
+            with site.transaction() as t:
+                t.lower("stock", 1)
+                return t.commit(key=key, since=since)
+
+        async def changes(key: str, since: str, before: Optional[Before]) -> str:
+            return await escrow.AsyncSite(site).change("stock", -1, before, key=key, since=since)
+
+        async def commits_as_task(key: str, since: str) -> str:
+            async with escrow.AsyncSite(site).transaction() as t:
+                await t.lower("stock", 1)
+                return await t.commit(key=key, since=since)
+
+        return {
+            "change": lambda key, since: site.change("stock", -1, key=key, since=since), "commit": commits,
+            "before": lambda key, since: site.change("stock", -1, lambda id: None, key=key, since=since),
+            "task": lambda key, since: asyncio.run(changes(key, since, None)),
+            "task, before": lambda key, since: asyncio.run(changes(key, since, lambda id: None)),
+            "task, commit": lambda key, since: asyncio.run(commits_as_task(key, since)),
+        }  # fmt: skip
+
+    def newest(self, folder: str) -> list[int]:
+        """The last commit, to let go of all up to there."""
+        return list(read_commits(folder)[-1].id)
+
+    def test_where_it_is(self) -> None:
+        site = self.opened_site(self.forgetful(stop="ahead"))
+        self.assertEqual(site.position(), of_shop("1.0"))
+        with self.assertRaises(escrow.Lost):
+            with site.transaction() as t:
+                t.lower("stock", 1)
+                self.assertEqual((t.id, site.position()), (of_shop("1.1"), of_shop("1.1")))
+        wait_until(lambda: site.up)
+        self.assertEqual(site.position(), of_shop("2.0"))
+        site.change("stock", -1)
+        site.share("stock")
+        self.assertEqual(site.position(), of_shop("2.1"))
+
+        async def asks() -> str:
+            shop = escrow.AsyncSite(site)
+            await asyncio.gather(*(shop.change("stock", -1) for _ in range(3)))
+            return await shop.position()
+
+        self.assertEqual(asyncio.run(asks()), of_shop("2.4"))
+
+    def test_a_new_key_is_sold(self) -> None:
+        """With a position at the horizon, and with one behind it."""
+        folder = self.forgetful()
+        site, sold = self.opened_site(folder), 1
+        site.change("stock", -1)
+        for name, sells in self.sales(site).items():
+            with self.subTest(name):
+                since = [site.position()]
+                site.change("stock", -1)
+                since.append(site.position())
+                tell(folder, horizon=numbers_of(since[0]))
+                ids = [sells(f"order-{sold + at}", since[at]) for at in (0, 1)]
+                sold += 3
+                self.assertEqual(([id for id, _ in self.sold(folder)][-2:], len(self.sold(folder))), (ids, sold))
+        self.is_quiet(site, 20 - sold)
+        commits = self.lines(folder, "commit")
+        self.assertEqual(len([it for it in commits if "since" in it]), len([it for it in commits if "key" in it]))
+        self.assertEqual(self.lines(folder, "kept"), [])
+
+    def test_a_new_key_whose_position_is_too_old(self) -> None:
+        folder = self.forgetful()
+        site = self.opened_site(folder)
+        since = site.position()
+        site.change("stock", -1)
+        tell(folder, horizon=[1, 1])
+        for name, sells in self.sales(site).items():
+            with self.subTest(name):
+                fault = self.forgets(lambda sells=sells: sells("new", since))  # type: ignore[misc]
+                self.assertEqual((fault.id, fault.key), (None, "new"))
+        self.is_quiet(site, 19)
+        self.assertEqual(len(self.sold(folder)), 1)
+
+    def test_a_key_is_asked_for_again(self) -> None:
+        """With the position of the first time: while it is held it is told, and then it is forgotten, and sold no second time."""
+        folder = self.forgetful()
+        site, sold = self.opened_site(folder), 0
+        for number, (name, sells) in enumerate(self.sales(site).items()):
+            with self.subTest(name):
+                key, since = f"order-{number}", site.position()
+                id = sells(key, since)
+                sold += 1
+                self.assertEqual((sells(key, since), site.kept_key(key, since=since)), (id, id))
+                tell(folder, horizon=[1, 0])
+                self.assertEqual((sells(key, since), site.kept_key(key, since=since)), (id, id))
+                tell(folder, horizon=self.newest(folder))
+                for _ in range(2):
+                    fault = self.forgets(lambda: sells(key, since))  # noqa: B023
+                    self.assertEqual((fault.id, fault.key), (None, key))
+                    fault = self.forgets(lambda: site.kept_key(key, since=since))  # noqa: B023
+                    self.assertEqual(fault.key, key)
+                self.assertEqual((site.kept_key("new", since=site.position()), len(self.sold(folder))), (None, sold))
+                tell(folder)
+        self.is_quiet(site, 20 - sold)
+
+    def test_it_is_short(self) -> None:
+        """What is short is told as short only where it is known not to be sold."""
+        folder = self.forgetful()
+        site = self.opened_site(folder)
+        since = site.position()
+        site.change("stock", -20, key="order", since=since)
+        tell(folder, horizon=[1, 1])
+
+        async def buys(key: str, since: str) -> str:
+            return await escrow.AsyncSite(site).change("stock", -20, key=key, since=since)
+
+        calls: list[Callable[[str, str], object]] = [
+            lambda key, since: site.change("stock", -20, key=key, since=since), lambda key, since: asyncio.run(buys(key, since)),
+        ]  # fmt: skip
+        for call in calls:
+            self.assertEqual(self.forgets(lambda: call("order", since)).key, "order")  # noqa: B023
+            with self.assertRaises(escrow.Short):
+                call("new", site.position())
+        self.is_quiet(site, 0)
+
+    def test_a_stop_at_the_commit(self) -> None:
+        """What it left is asked about with the position: what isn't sold is sold then, though the log was shortened meanwhile."""
+        folder = self.forgetful()
+        site, sold = self.opened_site(folder), 0
+        changes = {name: sells for name, sells in self.sales(site).items() if name in ("change", "task")}
+        for stop in ("ahead", "behind"):
+            for name, sells in changes.items():
+                with self.subTest(name, stop=stop):
+                    key, since, stops = f"{name}-{stop}", site.position(), site.counts.stops
+                    tell(folder, stop=stop, then={"horizon": numbers_of(since)})
+                    id = sells(key, since)
+                    sold += 1
+                    self.assertEqual((len(self.sold(folder)), self.sold(folder)[-1]), (sold, (id, -1)))
+                    self.assertEqual((site.counts.stops, sells(key, since)), (stops + 1, id))
+                    asked = f"kept key {key} since {since.rpartition('-')[2]}"
+                    self.assertEqual([it for it in self.lines(folder, "kept") if key in it], [asked])
+        self.is_quiet(site, 20 - sold)
+
+    def test_a_stop_at_the_commit_that_was_let_go_of(self) -> None:
+        folder = self.forgetful()
+        site, sold = self.opened_site(folder), 0
+        for stop in ("ahead", "behind"):
+            for name, sells in self.sales(site).items():
+                with self.subTest(name, stop=stop):
+                    key, since = f"{name.replace(', ', '-')}-{stop}", site.position()
+                    tell(folder, stop=stop, then={"horizon": [99, 0]})
+                    fault = self.forgets(lambda: sells(key, since))  # noqa: B023
+                    sold += stop == "behind"
+                    self.assertEqual((fault.key, len(self.sold(folder))), (key, sold))
+                    self.assertEqual(stop == "behind", fault.id in dict(self.sold(folder)))
+                    self.forgets(lambda: sells(key, since))  # noqa: B023
+                    self.assertEqual(len(self.sold(folder)), sold)
+
+    def test_a_log_that_is_whole_is_told_no_position(self) -> None:
+        """Nor is a program that doesn't know the word."""
+        folder = self.forgetful(version=1)
+        site = self.opened_site(folder)
+        since = site.position()
+        for sells in self.sales(site).values():
+            self.assertEqual(sells("order", since), of_shop("1.1"))
+        self.assertEqual(site.kept_key("order", since=since), of_shop("1.1"))
+        self.assertEqual(self.lines(folder, "since"), [])
+
+    def test_what_is_no_position(self) -> None:
+        """Of another world or site, of a transaction to come, or none at all: nothing is committed."""
+        site = self.opened_site(self.forgetful())
+        site.change("stock", -1)
+        world, later = of_shop("").partition("-")[0], "is later than any of the log"
+        cases: list[tuple[str, type[Exception], str]] = [
+            ("0123abcd-0-1.0", escrow.OtherWorld, "another world"), (f"{world}-1-1.0", escrow.OtherSite, "site 1"),
+            (of_shop("2.0"), escrow.Unknown, later), (of_shop("1.900"), ValueError, "1.900: "),
+            ("now", ValueError, "isn't the id"), ("", ValueError, "isn't the id"), (of_shop("1"), ValueError, "isn't the id"),
+        ]  # fmt: skip
+        for since, kind, told in cases:
+            for sells in (lambda key, since: site.kept_key(key, since=since), *self.sales(site).values()):
+                with self.subTest(since), self.assertRaises(kind) as raised:
+                    sells("order", since)
+                self.assertIn(told, str(raised.exception))
+        without: list[Does] = [
+            lambda: site.change("stock", -1, since=of_shop("1.0")), lambda: site.transaction().commit(since=of_shop("1.0")),
+            lambda: asyncio.run(escrow.AsyncSite(site).change("stock", -1, since=of_shop("1.0"))),
+        ]  # fmt: skip
+        for act in without:
+            self.assertRaises(TypeError, act)
+        wait_until(lambda: site.open == 0)
+        self.is_quiet(site, 19)
+        for since in ("1.0", of_shop("0.17"), f"{world}-1.1"):  # as ids of earlier clients
+            self.assertEqual(site.kept_key("order", since=since), None)
+
+    def test_a_position_behind_the_transaction(self) -> None:
+        """By it a later retry would take its commit for another's. It stays open."""
+        folder = self.forgetful()
+        site = self.opened_site(folder)
+        ahead = site.position()
+        with site.transaction() as t:
+            t.lower("stock", 3)
+            for since in (site.position(), t.id):
+                with self.assertRaises(ValueError) as raised:
+                    t.commit(key="order", since=since)
+                self.assertIn("isn't ahead of transaction 1.1", str(raised.exception))
+            self.assertEqual(t.commit(key="order", since=ahead), t.id)
+
+        async def sells() -> None:
+            async with escrow.AsyncSite(site).transaction() as t:
+                await t.lower("stock", 2)
+                with self.assertRaises(ValueError):
+                    await t.commit(key="other", since=site.position())
+                await t.abort()
+
+        asyncio.run(sells())
+        self.assertEqual(self.sold(folder), [(t.id, -3)])
+        self.is_quiet(site, 17)
+
+    def test_one_that_was_busy_keeps_its_position(self) -> None:
+        folder = self.forgetful(horizon=[0, 9])
+        site = self.opened_site(folder)
+        since = site.position()
+        with site.transaction() as t:
+            t.lower("stock", 3)
+            with self.assertRaises(escrow.Busy):
+                t.commit(key="order", since=since, timeout=0.0)
+        self.assertEqual((site.kept_key("order"), self.sold(folder)), (t.id, [(t.id, -3)]))
+
+
 class OverDoorTest(OverFolderTest):
     """The same over a door."""
 
@@ -350,6 +596,39 @@ class KeysOverDoorTest(KeysOverFolderTest):
     """The same over a door."""
 
     over_a_door = True
+
+
+class PositionsOverDoorTest(PositionsOverFolderTest):
+    """The same over a door."""
+
+    over_a_door = True
+
+    def test_others_begin_too(self) -> None:
+        """What one connection was told counts what all have begun."""
+        site = self.opened_site(self.forgetful())
+        other = escrow.Site.connect(site.folder, timeout=10.0)
+        self.addCleanup(other.close)
+        for _ in range(3):
+            other.change("stock", -1)
+        self.assertEqual((site.position(), other.position()), (of_shop("1.3"), of_shop("1.3")))
+        with other.transaction() as t:
+            t.lower("stock", 1)
+            self.assertEqual((t.id, site.position()), (of_shop("1.4"), of_shop("1.4")))
+
+    def test_lines(self) -> None:
+        """The door looks at what tells a key, and knows of each position whether it is so far."""
+        hand = self.hand(self.opened(Door(self.forgetful(), os.path.join(self.place, "door"), program=PROGRAM)))
+        self.assertEqual(hand.told("position", "0 begin", "position"),
+                         ["position -> 1.0", "0 begin -> begun 1.1", "position -> 1.1"])  # fmt: skip
+        asked = [f"kept key a since {since}" for since in ("1.0", "1.1", "1.2", "2.0", "0.99")]
+        replies = ("no", "no", "unbegun", "later", "no")
+        self.assertEqual(hand.told(*asked), [f"{line} -> {reply}" for line, reply in zip(asked, replies)])
+        bad = [f"{front} key a {words}" for front in ("kept", "0 commit .1") for words in ("since", "since 1", "since 1.0 b", "before 1.0")]
+        for line in (*bad, "kept key a/b since 1.0", "0 commit .1 key a since .1", "0 commit .1 since 1.0", "0 abort .1 key a since 1.0",
+                     "position a"):  # fmt: skip
+            self.assertEqual(hand.told(line), ["bad line: the door takes no such line"], line)
+        told = hand.told("0 escrow .1 stock -3", "0 commit .1 key a since 1.0", "kept key a since 1.0")
+        self.assertEqual(told[1:], ["0 commit 1.1 -> committed", "kept key a since 1.0 -> 1.1"])
 
 
 HEAD_3 = "escrow log 3\nnumber 0\nworld {}\nhead 16000123 1000000\nhorizon 7 1000431\nsum 0123456789abcdef\n"

@@ -98,7 +98,7 @@ class VersionTest(SiteTest):
                           ("log", "isn't the log of this site, or is a later program's: serve it by that, or put its own newest log back"),
                           ("trace", "isn't the trace of this site: put its own newest trace back")):  # fmt: skip
             with self.subTest(name):
-                later = VERSION_1[name].replace(" 1\n", " 3\n", 1)
+                later = VERSION_1[name].replace(" 1\n", " 9\n", 1)
                 done = self.serve({**VERSION_1, name: later})
                 told = f"escrow_site: {self.place}/shop/{name}: {why}\n"
                 self.assertEqual((done.returncode, done.stdout, done.stderr), (3, "", told))

@@ -14,6 +14,7 @@ import unittest.mock
 from collections.abc import Callable
 from typing import Any
 
+from forgetful_site import tell
 from programs import LARGE, SHOP, Killer, SiteTest, commits, escrow_site, kill, of_large, of_shop, pid_of, wait_until
 import escrow
 from escrow import Outcome, Refusal
@@ -24,6 +25,8 @@ from escrow.pipeline import Pipeline
 from escrow.waiters import Awaited
 
 FAKE = os.path.join(os.path.dirname(os.path.abspath(__file__)), "fake_site.py")
+SLOW = os.path.join(os.path.dirname(os.path.abspath(__file__)), "forgetful_site.py")
+"""A program that is slow with questions, where it is told to be."""
 WIDE = 64
 
 
@@ -437,6 +440,29 @@ class PaceTest(SiteTest):
             asyncio.run(calls())
         site.close()
         self.assertEqual((len(told), set(told)), (60 * WIDE + 200, set(commits(site.folder, LARGE))))
+
+    def test_what_is_held_goes_out_behind_an_answer_that_nobody_waits_for(self) -> None:
+        """It waits for more answers, and the last of them is of a call whose time was up."""
+        folder = self.folder()
+        site = escrow.Site(folder, program=SLOW, timeout=10.0)
+        self.addCleanup(site.close)
+
+        async def asks() -> list[object]:
+            shop = escrow.AsyncSite(site)
+            id = await shop.change("stock", -3)
+            await lend(site, shop)
+            tell(folder, slow=0.5)
+
+            async def two() -> object:
+                await shop.share("stock")
+                return await shop.share("stock")
+
+            told = await asyncio.gather(two(), shop.outcome(id, timeout=0.1), return_exceptions=True)
+            self.assertTrue(is_lent(site))
+            return list(told)
+
+        share, fault = asyncio.run(asks())
+        self.assertEqual((share, type(fault)), (escrow.Share(17, 33), escrow.Busy))
 
     def test_what_is_held_goes_out_where_the_turn_ends(self) -> None:
         site = self.site(LARGE)

@@ -1,4 +1,5 @@
-"""The examples of the page README.md do what stands there: a first sale, two web services, carts, several processes, and orders by key."""
+"""The examples of the page README.md do what stands there: a first sale, two web services, carts, several processes, and orders by key,
+with their positions too."""
 
 from __future__ import annotations
 
@@ -16,7 +17,7 @@ from programs import PACKAGES, SiteTest, escrow_site
 import escrow
 
 UVICORN = importlib.util.find_spec("uvicorn") is not None
-NAMES = ["sale.py", "shop.py", "app.py", "carts.py", "worker.py", "once.py"]
+NAMES = ["sale.py", "shop.py", "app.py", "carts.py", "worker.py", "once.py", "position.py"]
 """What is typed first in each."""
 
 

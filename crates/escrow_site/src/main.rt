@@ -2,16 +2,19 @@
 //! another, over standard input and output.
 #![tactic(auto)]
 
+mod archived;
 mod checking;
 mod closing;
 mod creating;
 mod judging;
+mod linked;
 mod locking;
 mod serving;
 mod settling;
 mod showing;
 mod tracing;
 mod unsynced;
+mod verifying;
 mod weaving;
 
 use clap::Error;
@@ -31,6 +34,7 @@ fn carry_out(rt: &HostRuntime, task: &Task) -> Result<u8, Fault> {
         } => creating::create(rt, folder.as_str(), schema.as_str(), *site, name),
         Task::Serve { folder, how } => serving::serve_folder(rt, folder.as_str(), *how),
         Task::Show { folder } => showing::show(rt, folder.as_str()),
+        Task::Verify { folder } => return verifying::verify(rt, folder.as_str()),
         Task::Check { folders } => checking::check(rt, folders.as_slice()),
         Task::Settle { folders, how } => settling::settle(rt, folders.as_slice(), *how),
         Task::Weave { folders } => weaving::weave_folders(rt, folders.as_slice()),

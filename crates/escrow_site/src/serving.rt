@@ -1,7 +1,9 @@
 //! The command `serve`.
 
+use crate::archived::ArchivedLog;
 use crate::closing::{is_settled, settled_fault};
 use crate::creating::sync_site;
+use crate::linked::paths_of;
 use crate::locking::lock_log;
 use crate::tracing::trace_for;
 use crate::unsynced::UnsyncedFile;
@@ -42,14 +44,15 @@ fn serve_behind<F: Replaceable + Drop, T: LogFile>(
     identity: &Identity,
     log: &mut ShortFile<'_, F>,
     trace: &mut T,
-    keep: Option<usize>,
+    how: Serving,
 ) -> Result<(), Fault> {
     let alloc = rt.alloc();
     let gone = gone_of(alloc, log)?;
-    let mut service = open_service(alloc, paths, identity, gone, &mut *log, trace)?;
+    let kept = ArchivedLog::new(rt, paths, &mut *log, how.is_archived);
+    let mut service = open_service(alloc, paths, identity, gone, kept, trace)?;
     let mut reader = Watched::new(rt.stdin());
     let mut writer = Watched::new(rt.stdout());
-    match keep {
+    match how.keep {
         Some(keep) => keep_streams(
             alloc,
             paths,
@@ -70,11 +73,11 @@ fn serve_traced<F: Replaceable + Drop, T: TellsFault>(
     identity: &Identity,
     log: &mut ShortFile<'_, F>,
     trace: &mut Option<T>,
-    keep: Option<usize>,
+    how: Serving,
 ) -> Result<(), Fault> {
     match trace {
-        Some(trace) => serve_behind(rt, paths, identity, log, trace, keep),
-        None => serve_behind(rt, paths, identity, log, &mut NoTrace, keep),
+        Some(trace) => serve_behind(rt, paths, identity, log, trace, how),
+        None => serve_behind(rt, paths, identity, log, &mut NoTrace, how),
     }
 }
 
@@ -85,9 +88,9 @@ fn serve_short<F: Replaceable + Drop, T: TellsFault>(
     identity: &Identity,
     log: &mut ShortFile<'_, F>,
     trace: &mut Option<T>,
-    keep: Option<usize>,
+    how: Serving,
 ) -> Result<(), Fault> {
-    match serve_traced(rt, paths, identity, log, trace, keep) {
+    match serve_traced(rt, paths, identity, log, trace, how) {
         Ok(()) => Ok(()),
         Err(fault) => Err(sealed_fault(rt.alloc(), paths, fault, log.is_lost(), trace)),
     }
@@ -119,10 +122,10 @@ fn serve_lent<F: TellsSwap, T: TellsFault>(
     identity: &Identity,
     file: &mut F,
     trace: &mut Option<T>,
-    keep: Option<usize>,
+    how: Serving,
 ) -> Result<(), Fault> {
     match open_short(rt.alloc(), identity, &mut *file) {
-        Ok(mut log) => serve_short(rt, paths, identity, &mut log, trace, keep),
+        Ok(mut log) => serve_short(rt, paths, identity, &mut log, trace, how),
         Err(ShortFault::Plain) => serve_plain(rt, paths, identity, file, trace),
         Err(fault) => Err(short_fault(rt.alloc(), paths, identity, fault, file)),
     }
@@ -135,11 +138,11 @@ fn serve_files<F: TellsSwap, T: TellsFault>(
     identity: &Identity,
     file: F,
     trace: Option<T>,
-    keep: Option<usize>,
+    how: Serving,
 ) -> Result<(), Fault> {
     let mut file = file;
     let mut trace = trace;
-    match serve_lent(rt, paths, identity, &mut file, &mut trace, keep) {
+    match serve_lent(rt, paths, identity, &mut file, &mut trace, how) {
         Ok(()) => Ok(()),
         Err(fault) => Err(told_fault(rt.alloc(), paths, fault, &mut file, &mut trace)),
     }
@@ -169,10 +172,10 @@ fn serve_synced(
     identity: &Identity,
     file: HostFile,
     trace: Option<HostFile>,
-    keep: Option<usize>,
+    how: Serving,
 ) -> Result<(), Fault> {
     let swap = swap_of(rt, paths, file, LogSyncs::Made)?;
-    serve_files(rt, paths, identity, swap, trace, keep)
+    serve_files(rt, paths, identity, swap, trace, how)
 }
 
 // Serves the site over files that aren't synced.
@@ -182,14 +185,14 @@ fn serve_unsynced(
     identity: &Identity,
     file: HostFile,
     trace: Option<HostFile>,
-    keep: Option<usize>,
+    how: Serving,
 ) -> Result<(), Fault> {
     let swap = swap_of(rt, paths, file, LogSyncs::LeftOut)?;
     let trace = match trace {
         Some(trace) => Some(UnsyncedFile::new(trace)),
         None => None,
     };
-    serve_files(rt, paths, identity, swap, trace, keep)
+    serve_files(rt, paths, identity, swap, trace, how)
 }
 
 // The trace of a locked log, which is refused where it is older than was seen before.
@@ -240,16 +243,16 @@ fn serve_site(
     refuse_folder(rt, paths, identity, how)?;
     let trace = trace_beside(rt, paths, identity, how)?;
     if how.is_synced {
-        serve_synced(rt, paths, identity, file, trace, how.keep)
+        serve_synced(rt, paths, identity, file, trace, how)
     } else {
-        serve_unsynced(rt, paths, identity, file, trace, how.keep)
+        serve_unsynced(rt, paths, identity, file, trace, how)
     }
 }
 
 /// Serves the site of a folder over standard input and output, to the end of the input. Where it
 /// isn't synced, what is answered may be lost by a stop of the machine.
 pub(crate) fn serve_folder(rt: &HostRuntime, folder: &str, how: Serving) -> Result<(), Fault> {
-    let paths = Paths::new(rt.alloc(), folder)?;
+    let paths = paths_of(rt, folder)?;
     let identity = read_site(rt, rt.alloc(), &paths)?;
     serve_site(rt, &paths, &identity, how)
 }

@@ -133,7 +133,7 @@ fn leaves_a_torn_end_out(rt: HostRuntime) {
 }
 
 /// Texts, and the first line of each that no trace has.
-const OTHER_LINES: [(&str, u64); 17] = [
+const OTHER_LINES: [(&str, u64); 25] = [
     ("\n", 1),
     ("0 begin\n", 1),
     ("0 begin -> begun 0.1\n0 begin -> begun\n\n", 2),
@@ -157,6 +157,20 @@ const OTHER_LINES: [(&str, u64); 17] = [
     ("kept key order-17 -> 01.1\n", 1),
     ("kept key order-17 -> no \n", 1),
     ("kept key order-17 -> 1.1 -> committed\n", 1),
+    ("kept 1.1 -> forgotten\nkept 1.1 -> forgot\n", 2),
+    ("kept key a -> forgotten\nkept key a -> forgotten \n", 2),
+    (
+        "kept key a since 1.0 -> no\nkept key a since 2.17 -> forgotten\nkept key a since 1.4 -> 1.5\nkept key a since 1.0\n",
+        4,
+    ),
+    (
+        "kept key since -> no\nkept key since since 1.0 -> no\nkept key since 1.0 -> no\n",
+        3,
+    ),
+    ("kept key a since 1 -> no\n", 1),
+    ("kept key a since 01.1 -> no\n", 1),
+    ("kept key a since -> no\n", 1),
+    ("kept key a since 1.0 -> yes\n", 1),
 ];
 
 #[test]

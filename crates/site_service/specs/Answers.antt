@@ -132,8 +132,8 @@ pub record RefusedKey (old : Served) (line : List ℕ) (new : Served) (text : Li
   pub still : IsStill old new
   pub told : text ≡ kept_key_text key ++ kept_key_words (key_answer old.let_go.told since kept)
 
--- The line asks a commit with a key, with which none is kept among the records that are held, nor was among those that were let go, as far
--- as it was since when the line tells. It is carried out, and the text is that of its entry, without the key, which is noted for its
+-- The line asks a commit with a key of which the answer is no: with it no commit is kept among the records that are held, and none that is
+-- looked for is among those that were let go. It is carried out, and the text is that of its entry, without the key, which is noted for its
 -- transaction where it was committed.
 pub record CommittedWithKey (old : Served) (line : List ℕ) (new : Served) (text : List ℕ) : Type 0 where
   pub txn : TxnId
@@ -208,8 +208,8 @@ pub record Passed (old : Served) (line : List ℕ) (new : Served) (text : List �
 -- ---- the answers
 
 -- The answer to a line, whose number the new count tells: the entry of the command that it asks, carried out; the same of a commit
--- with a key, or which commit is kept with the key already, or that one may be forgotten; whether a commit is in the log; which one is kept with a key; or that the
--- line asks nothing.
+-- with a key, or which commit is kept with the key already, or that one may be forgotten; whether a commit is in the log; which one is
+-- kept with a key; or that the line asks nothing.
 abbrev pub IsAnswer : Served → List ℕ → Served → List ℕ → Type 0
 IsAnswer old line new text =
     CarriedOut old line new text

@@ -50,7 +50,7 @@ pub record AsksNoCommand (schema : SchemaValue) (line : List ℕ) : Type 0 where
   pub none : (site : SiteNo) (command : CommandType) → site.0 < schema.sites → SiteFits site → CommandFits command
       → line ≢ command_text schema site command
 
--- The line is this front, and behind it since when, where that is told; where it isn't, nothing behind the line's front could tell it.
+-- The line is this front, and behind it since when, where that is told; where it isn't, no cut of the line tells it.
 pub record IsCutAtSince (line front : List ℕ) (since : Option TxnId) : Type 0 where
   pub parts : line ≡ with_since front since
   pub fits : SinceFits since

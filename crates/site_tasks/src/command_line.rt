@@ -54,6 +54,8 @@ With --keep the log is shortened while it is served: it lets go of its front, so
 disk, memory and the time of a start don't grow with the past. What stays behind its
 first summary are at least BYTES, and in any case the last thousand records; 1048576
 is a good value. Ids and keys of commits that were let go are answered `forgotten`.
+With --archive the log as it was stays in the folder each time, as log.GONE, where GONE
+are the bytes that the head of the new log tells to be gone; `verify` reads them all.
 The first line of such a log, and with --keep, is `ready 2 EPOCH LENGTH`; LENGTH counts
 what was let go too. A log of version 1 is refused: it has no sums.
 
@@ -76,6 +78,8 @@ const NO_SYNC_HELP: &str = "Doesn't sync the log: a stop of the machine may lose
 
 const NOT_BEFORE_HELP: &str = "Refuses a log with an earlier epoch or fewer bytes, as an old copy";
 
+const ARCHIVE_HELP: &str = "Keeps the log as it was each time that --keep lets go of its front";
+
 const KEEP_HELP: &str = "Lets go of the log's front: what stays are at least so many bytes";
 
 /// The most bytes that may be asked to stay: 2^40.
@@ -84,6 +88,24 @@ const KEEP_MOST: u64 = 1_099_511_627_776;
 const NOT_BEFORE_NAMES: &[&str] = &["EPOCH", "LENGTH"];
 
 const SHOW_ABOUT: &str = "Tells what the site's log stands for, served or not";
+
+const VERIFY_ABOUT: &str = "Verifies the site's whole log, from all parts that were kept of it";
+
+const VERIFY_EXAMPLE: &str = "\
+It reads the log, and from there back each part that `serve --keep --archive` kept:
+log.GONE, where GONE are the bytes that the head of the part behind it tells to be gone,
+up to one of which nothing is gone. A log that is whole is verified by itself. It takes no
+lock, writes nothing, and holds one part at a time in memory.
+
+  verified RECORDS BYTES
+
+Each part goes on where the one before leaves off, with the summary of all that stands
+in front of it; all records together, from the site's beginning on, are lawful; and each
+head tells rightly what is gone. RECORDS are all but summaries, BYTES those of all records.
+It is refused else, at the file and the line of the first fault, from the log back.
+
+Example:
+  escrow_site verify shop";
 
 const CHECK_ABOUT: &str = "Checks the logs of all sites of a world together";
 
@@ -241,6 +263,14 @@ fn keep_arg<'a>(alloc: Global) -> Arg<'a> {
         .value_parser(ValueParser::unsigned(0, KEEP_MOST))
 }
 
+fn archive_arg<'a>(alloc: Global) -> Result<Arg<'a>, AllocError> {
+    Arg::new(alloc, "archive")
+        .long("archive")
+        .help(ARCHIVE_HELP)
+        .action(ArgAction::SetTrue)
+        .requires_arg("keep")
+}
+
 fn serve_command<'a>(alloc: Global) -> Result<Command<'a>, AllocError> {
     Command::new(alloc, "serve")
         .about(SERVE_ABOUT)
@@ -249,12 +279,20 @@ fn serve_command<'a>(alloc: Global) -> Result<Command<'a>, AllocError> {
         .arg(trace_arg(alloc))?
         .arg(no_sync_arg(alloc))?
         .arg(not_before_arg(alloc))?
-        .arg(keep_arg(alloc))
+        .arg(keep_arg(alloc))?
+        .arg(archive_arg(alloc)?)
 }
 
 fn show_command<'a>(alloc: Global) -> Result<Command<'a>, AllocError> {
     Command::new(alloc, "show")
         .about(SHOW_ABOUT)
+        .arg(folder_arg(alloc))
+}
+
+fn verify_command<'a>(alloc: Global) -> Result<Command<'a>, AllocError> {
+    Command::new(alloc, "verify")
+        .about(VERIFY_ABOUT)
+        .after_help(VERIFY_EXAMPLE)
         .arg(folder_arg(alloc))
 }
 
@@ -323,6 +361,7 @@ fn program<'a>(alloc: Global) -> Result<Command<'a>, AllocError> {
     let whole = with_part(whole, create_command(alloc))?;
     let whole = with_part(whole, serve_command(alloc))?;
     let whole = with_part(whole, show_command(alloc))?;
+    let whole = with_part(whole, verify_command(alloc))?;
     let whole = with_part(whole, check_command(alloc))?;
     let whole = with_part(whole, settle_command(alloc))?;
     let whole = with_part(whole, weave_command(alloc))?;
@@ -398,12 +437,19 @@ fn serve_task(alloc: Global, asked: &ArgMatches<'_>) -> Result<Task, AllocError>
             is_traced: asked.get_flag("trace"),
             not_before: not_before(asked),
             keep: keep_of(asked),
+            is_archived: asked.get_flag("archive"),
         },
     })
 }
 
 fn show_task(alloc: Global, asked: &ArgMatches<'_>) -> Result<Task, AllocError> {
     Ok(Task::Show {
+        folder: text_of(alloc, asked, "FOLDER")?,
+    })
+}
+
+fn verify_task(alloc: Global, asked: &ArgMatches<'_>) -> Result<Task, AllocError> {
+    Ok(Task::Verify {
         folder: text_of(alloc, asked, "FOLDER")?,
     })
 }
@@ -442,6 +488,7 @@ fn task_of(alloc: Global, matches: &ArgMatches<'_>) -> Result<Task, Error> {
         Some(("create", asked)) => Ok(create_task(alloc, asked)?),
         Some(("serve", asked)) => Ok(serve_task(alloc, asked)?),
         Some(("show", asked)) => Ok(show_task(alloc, asked)?),
+        Some(("verify", asked)) => Ok(verify_task(alloc, asked)?),
         Some(("check", asked)) => Ok(check_task(alloc, asked)?),
         Some(("settle", asked)) => Ok(settle_task(alloc, asked)?),
         Some(("weave", asked)) => Ok(weave_task(alloc, asked)?),

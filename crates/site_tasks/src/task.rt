@@ -14,6 +14,8 @@ pub struct Serving {
     /// How many bytes of its log stay at least while it lets go of its front, or None where it keeps
     /// all.
     pub keep: Option<usize>,
+    /// Whether the log as it was is kept behind each time that it let go of its front.
+    pub is_archived: bool,
 }
 
 /// How a world is settled.
@@ -48,6 +50,10 @@ pub enum Task {
     /// To check the logs of all sites of a world together.
     Check {
         folders: Vec<String>,
+    },
+    /// To verify the log of a folder with all parts that were kept of it.
+    Verify {
+        folder: String,
     },
     /// To write the header of a world that goes on where the logs end, and to close the folders.
     Settle {

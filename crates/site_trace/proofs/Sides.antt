@@ -64,7 +64,7 @@ word_spaceless : (word : List ℕ) → IsWord word → IsSpaceless word
 word_spaceless [] is = All-nil (λ b. b ≢ 32)
 word_spaceless (b ∷ word) is = All-cons (λ b. b ≢ 32) b word (λ e. omega (arith, e, is.0)) (word_spaceless word is.1)
 
-decimal_spaceless : (n : ℕ) → n < 2 ^ 64 → IsSpaceless (decimal n)
+pub decimal_spaceless : (n : ℕ) → n < 2 ^ 64 → IsSpaceless (decimal n)
 decimal_spaceless n fits = word_spaceless (decimal n) (decimal_word n fits)
 
 space_there : (a b : List ℕ) → IsSpaceless (a ++ 32 ∷ b) → ⊥

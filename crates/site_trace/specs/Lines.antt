@@ -1,5 +1,5 @@
 -- What a line of a site's trace is (this project).
-use Rattle.std.specs.Prelude.{◌≡◌, ◌≢◌, ◌⊎◌, ◌<◌, ◌^◌, ℕ, List, ◌∷◌, ◌++◌, codes}
+use Rattle.std.specs.Prelude.{◌≡◌, ◌≢◌, ◌⊎◌, ◌<◌, ◌^◌, ℕ, List, [], ◌∷◌, ◌++◌, codes}
 use Rattle.std.specs.Fmt.{decimal}
 use Rattle.field_bounds.specs.Schema.{SchemaValue}
 use Rattle.field_bounds.specs.declared.id.TxnId.{TxnId}
@@ -17,7 +17,8 @@ pub record IsEntry (schema : SchemaValue) (line : List ℕ) (entry : Entry) : Ty
 abbrev pub IsNoEntry : SchemaValue → List ℕ → Type 0
 IsNoEntry schema line = (entry : Entry) → EntryFits entry → line ≢ entry_text schema entry
 
--- It tells, in these words, whether the commit of a transaction is in the log: they stand behind the question for it.
+-- It tells, in these words, whether the commit of a transaction is in the log, or that it can't be told: they stand behind the
+-- question for it.
 pub record AnswersKept (line words : List ℕ) : Type 0 where
   pub txn : TxnId
   pub fits : IdFits txn
@@ -36,22 +37,29 @@ pub record IsTxn (word : List ℕ) : Type 0 where
   pub fits : IdFits txn
   pub text : word ≡ id_text txn
 
--- It is a transaction, or `no`.
+-- It is a transaction, `no`, or `forgotten`.
 abbrev pub IsTold : List ℕ → Type 0
-IsTold word = (word ≡ codes "no") ⊎ IsTxn word
+IsTold word = (word ≡ codes "no") ⊎ ((word ≡ codes "forgotten") ⊎ IsTxn word)
 
--- It tells of a key the transaction that is kept with it, or that there is none.
+-- Behind a key stands nothing; or since when it is asked for, a position, which is spelled as a transaction.
+abbrev pub IsSince : List ℕ → Type 0
+IsSince since = (since ≡ []) ⊎ ((position : List ℕ) × IsTxn position × (since ≡ codes " since " ++ position))
+
+-- It tells of a key the transaction that is kept with it, or that there is none, or that it can't be told any more.
 pub record AnswersKey (line : List ℕ) : Type 0 where
   pub key : List ℕ
+  pub since : List ℕ
   pub told : List ℕ
   pub is_key : IsKey key
+  pub is_since : IsSince since
   pub is_told : IsTold told
-  pub text : line ≡ codes "kept key " ++ (key ++ (codes " -> " ++ told))
+  pub text : line ≡ codes "kept key " ++ (key ++ (since ++ (codes " -> " ++ told)))
 
 -- A remark: an answer of a served site that is no entry. It is to a question for a commit or for a key, or to a line that asked
 -- nothing.
 abbrev pub IsKeptAnswer : List ℕ → Type 0
-IsKeptAnswer line = AnswersKept line (codes " -> yes") ⊎ AnswersKept line (codes " -> no")
+IsKeptAnswer line =
+    AnswersKept line (codes " -> yes") ⊎ (AnswersKept line (codes " -> no") ⊎ AnswersKept line (codes " -> forgotten"))
 
 abbrev pub IsRemark : List ℕ → Type 0
 IsRemark line = IsKeptAnswer line ⊎ (AnswersKey line ⊎ AnswersBad line)

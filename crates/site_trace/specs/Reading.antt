@@ -9,7 +9,7 @@ use Rattle.site_trace.specs.declared.fault.TraceFault.TheVariants.{Line, NoMemor
 use Rattle.site_trace.specs.declared.line.TraceLine.{TraceLine}
 use Rattle.site_trace.specs.declared.line.TraceLine.TheVariants as lines
 use Rattle.site_trace.specs.declared.reading.TracedEntry.{TracedEntry}
-use Rattle.site_trace.specs.Lines.{IsEntry, IsNoEntry, IsTold, IsRemark, IsOtherLine}
+use Rattle.site_trace.specs.Lines.{IsEntry, IsNoEntry, IsTold, IsTxn, IsRemark, IsOtherLine}
 
 -- What the line is.
 abbrev pub IsLineRead : SchemaValue → List ℕ → TraceLine → Type 0
@@ -47,10 +47,28 @@ pub record TellsBehind (bytes : List ℕ) : Type 0 where
   pub is_told : IsTold told
   pub text : bytes ≡ codes "-> " ++ told
 
--- A key, and behind a space (32) what is told of it.
-pub record TellsKey (bytes : List ℕ) : Type 0 where
-  pub key : List ℕ
+-- A word of this kind, and behind a space (32) bytes of that kind.
+pub record StandsInFront (P Q : List ℕ → Type 0) (bytes : List ℕ) : Type 0 where
+  pub word : List ℕ
   pub behind : List ℕ
-  pub is_key : IsKey key
-  pub tells : TellsBehind behind
-  pub text : bytes ≡ key ++ 32 ∷ behind
+  pub is : P word
+  pub tells : Q behind
+  pub text : bytes ≡ word ++ 32 ∷ behind
+
+-- A position, and what is told since then.
+abbrev pub TellsPosition : List ℕ → Type 0
+TellsPosition bytes = StandsInFront IsTxn TellsBehind bytes
+
+-- So behind the word `since`.
+pub record TellsSince (bytes : List ℕ) : Type 0 where
+  pub rest : List ℕ
+  pub tells : TellsPosition rest
+  pub text : bytes ≡ codes "since " ++ rest
+
+-- What is told of a key, maybe since a position.
+abbrev pub TellsAnswer : List ℕ → Type 0
+TellsAnswer bytes = TellsBehind bytes ⊎ TellsSince bytes
+
+-- A key, and what is told of it.
+abbrev pub TellsKey : List ℕ → Type 0
+TellsKey bytes = StandsInFront IsKey TellsAnswer bytes

@@ -1,9 +1,9 @@
 //! Lines of a trace that are no entries.
 
-ghost use Rattle.std.specs.Prelude.{◌≡◌, ◌≢◌, ◌⊎◌, ◌++◌, ℕ, List, MatchOption, MatchBool};
+ghost use Rattle.std.specs.Prelude.{◌≡◌, ◌≢◌, ◌⊎◌, ◌++◌, ℕ, List, MatchOption, MatchBool, codes};
 ghost use Rattle.caller_keys.specs.Keys.{IsKey};
 ghost use Rattle.site_trace.specs.Lines.{AnswersKept, AnswersKey, AnswersBad, IsKeptAnswer, IsTold, IsTxn, IsRemark};
-ghost use Rattle.site_trace.specs.Reading.{IsNumber, StartsWithNumber, TellsBehind, TellsKey};
+ghost use Rattle.site_trace.specs.Reading.{IsNumber, StartsWithNumber, TellsAnswer, TellsBehind, TellsKey, TellsPosition, TellsSince};
 
 use crate::split::split_at_first;
 use caller_keys::read_key;
@@ -55,11 +55,21 @@ fn tells_commit(line: &[u8], words: &[u8]) -> bool
     }
 }
 
+// Whether the line tells that a commit isn't in the log, or that it can't be told.
+fn tells_no_commit(line: &[u8]) -> bool
+    ensures tells { MatchBool result (AnswersKept line.now (codes " -> no")
+        ⊎ AnswersKept line.now (codes " -> forgotten"))
+        (AnswersKept line.now (codes " -> no")
+        ⊎ AnswersKept line.now (codes " -> forgotten") → ⊥) }
+{
+    tells_commit(line, b" -> no") || tells_commit(line, b" -> forgotten")
+}
+
 // Whether the line answers a question for a commit.
 fn is_kept_answer(line: &[u8]) -> bool
     ensures kept { MatchBool result (IsKeptAnswer line.now) (IsKeptAnswer line.now → ⊥) }
 {
-    tells_commit(line, b" -> yes") || tells_commit(line, b" -> no")
+    tells_commit(line, b" -> yes") || tells_no_commit(line)
 }
 
 // Whether the word is a transaction.
@@ -69,11 +79,19 @@ fn is_txn(word: &[u8]) -> bool
     read_txn(word).is_some()
 }
 
-// Whether the word is a transaction, or `no`.
+// Whether the word is a transaction, or `forgotten`.
+fn is_txn_or_forgotten(word: &[u8]) -> bool
+    ensures told { MatchBool result ((word.now ≡ codes "forgotten") ⊎ IsTxn word.now)
+        ((word.now ≡ codes "forgotten") ⊎ IsTxn word.now → ⊥) }
+{
+    word == b"forgotten".as_slice() || is_txn(word)
+}
+
+// Whether the word is a transaction, `no`, or `forgotten`.
 fn is_told(word: &[u8]) -> bool
     ensures told { MatchBool result (IsTold word.now) (IsTold word.now → ⊥) }
 {
-    word == b"no".as_slice() || is_txn(word)
+    word == b"no".as_slice() || is_txn_or_forgotten(word)
 }
 
 // Whether what is told of a key stands behind an arrow.
@@ -84,6 +102,33 @@ fn tells_behind(bytes: &[u8]) -> bool
         Some(word) => is_told(word),
         None => false,
     }
+}
+
+// Whether the bytes are a position, and what is told since then behind a space.
+fn tells_position(bytes: &[u8]) -> bool
+    ensures tells { MatchBool result (TellsPosition bytes.now) (TellsPosition bytes.now → ⊥) }
+{
+    match split_at_first(bytes, b' ') {
+        Some((word, rest)) => is_txn(word) && tells_behind(rest),
+        None => false,
+    }
+}
+
+// Whether that stands behind the word `since`.
+fn tells_since(bytes: &[u8]) -> bool
+    ensures tells { MatchBool result (TellsSince bytes.now) (TellsSince bytes.now → ⊥) }
+{
+    match behind(bytes, b"since ") {
+        Some(rest) => tells_position(rest),
+        None => false,
+    }
+}
+
+// Whether the bytes are what is told of a key, maybe since a position.
+fn tells_answer(bytes: &[u8]) -> bool
+    ensures tells { MatchBool result (TellsAnswer bytes.now) (TellsAnswer bytes.now → ⊥) }
+{
+    tells_behind(bytes) || tells_since(bytes)
 }
 
 // Whether the word is a key.
@@ -98,7 +143,7 @@ fn tells_key(bytes: &[u8]) -> bool
     ensures tells { MatchBool result (TellsKey bytes.now) (TellsKey bytes.now → ⊥) }
 {
     match split_at_first(bytes, b' ') {
-        Some((key, rest)) => is_key(key) && tells_behind(rest),
+        Some((key, rest)) => is_key(key) && tells_answer(rest),
         None => false,
     }
 }

@@ -46,6 +46,7 @@ def arguments(words: Optional[Sequence[str]] = None) -> argparse.Namespace:
     parser.add_argument("--program", metavar="PATH", help="escrow_site (else $ESCROW_SITE, or the one on the path)")
     parser.add_argument("--trace", action="store_true", help="keep a trace: from the first start on and always, or never")
     parser.add_argument("--no-sync", action="store_true", help="don't sync: a stop of the machine may lose what was answered")
+    parser.add_argument("--keep", type=int, metavar="BYTES", help="let go of the log's front, but for so many bytes at least")
     parser.add_argument("--not-before", nargs=2, type=int, metavar=("EPOCH", "LENGTH"), help="refuse a log that is older")
     parser.add_argument("--slow", type=float, default=30.0, metavar="SECONDS",
                         help="end a connection that takes no answer for so long (30)")  # fmt: skip
@@ -61,6 +62,7 @@ class Door:
         self.site: Identity = identity(self.folder)
         self._lock = lock_folder(self.folder)
         options = [*(["--trace"] if told.trace else []), *(["--no-sync"] if told.no_sync else [])]
+        options += [] if told.keep is None else ["--keep", str(told.keep)]
         self._command = [_program(told.program), "serve", self.folder, *options]
         self._mark = Mark(*told.not_before) if told.not_before else None
         self._limits = Limits(told.slow)

@@ -174,13 +174,16 @@ class Planner:
         elif words[0] == "kept" and len(words) == 2:
             self._kept(plan, line, words[1])
             return
-        elif words[:2] == ["kept", "key"] and len(words) == 3 and is_key(words[2]):
-            plan.send(f"{line}\n")
+        elif words[:2] == ["kept", "key"] and is_keyed(words[1:]):
+            self._kept_key(plan, line, words)
             return
         elif line == "leave" and plan.who.granted:
             plan.who.granted -= 1
             self.places.give_back(plan.who)
             plan.answer(line, "left")
+            return
+        elif line == "position":
+            plan.answer(line, f"{self._prefix}{self.number}")
             return
         elif line == "mark":
             mark = self._newest()
@@ -259,8 +262,8 @@ class Planner:
         return True
 
     def _end(self, plan: Plan, line: str, words: Sequence[str]) -> bool:
-        is_keyed = len(words) == 5 and words[1] == "commit" and words[3] == "key" and is_key(words[4])
-        if len(words) != 3 and not is_keyed:
+        has_key = words[1] == "commit" and is_keyed(words[3:])
+        if len(words) != 3 and not has_key:
             return False
         who, id = plan.who, self._own(plan, " ".join(words[:3]), words[2])
         if id:
@@ -268,7 +271,7 @@ class Planner:
             del self._owners[id]
             self.places.give_back(who)
             plan.send(" ".join((self._site, words[1], id, *words[3:])) + "\n")
-            if is_keyed:  # where a commit with the key is kept already the site leaves it open
+            if has_key:  # where a commit with the key is kept already, or may have been let go of, the site leaves it open
                 plan.ask(f"{self._site} abort {id}\n")
         return True
 
@@ -282,14 +285,31 @@ class Planner:
 
     def _kept(self, plan: Plan, line: str, id: str) -> None:
         found = _ID.fullmatch(id)
-        epoch, number = (int(found[1]), int(found[2])) if found else (0, 0)
-        if found is None:
-            plan.answer(line, "no")
-        elif epoch > self._epoch:
-            plan.answer(line, "later")
-        elif epoch == self._epoch and number > self.number:
-            plan.answer(line, "unbegun")
+        ahead = "no" if found is None else self._ahead(int(found[1]), int(found[2]))
+        if ahead:
+            plan.answer(line, ahead)
         elif id in self._owners:
             plan.answer(line, "open")
         else:
             plan.send(f"{line}\n")
+
+    def _kept_key(self, plan: Plan, line: str, words: Sequence[str]) -> None:
+        found = _ID.fullmatch(words[-1]) if len(words) > 3 else None
+        ahead = "" if found is None else self._ahead(int(found[1]), int(found[2]))
+        if ahead:
+            plan.answer(line, ahead)
+        else:
+            plan.send(f"{line}\n")
+
+    def _ahead(self, epoch: int, number: int) -> str:
+        """What is answered of a transaction that isn't begun yet; nothing of another."""
+        if epoch > self._epoch:
+            return "later"
+        return "unbegun" if epoch == self._epoch and number > self.number else ""
+
+
+def is_keyed(words: Sequence[str]) -> bool:
+    """Whether these tell a key: `key KEY`, or `key KEY since EPOCH.NUMBER`."""
+    if len(words) not in (2, 4) or words[0] != "key" or not is_key(words[1]):
+        return False
+    return len(words) == 2 or (words[2] == "since" and _ID.fullmatch(words[3]) is not None)

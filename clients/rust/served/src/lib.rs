@@ -9,7 +9,6 @@ mod door;
 mod lines;
 
 use lines::{lock, End, Heard, Lines};
-use std::cmp::Ordering;
 use std::collections::{HashMap, HashSet};
 use std::convert::Infallible;
 use std::fmt::{Debug, Display, Formatter};
@@ -64,7 +63,8 @@ pub enum Fault {
     Door(String),
     /// This line is none that this client knows.
     Line(String),
-    /// No id of this site, or none that the log can tell of, and why: of another world or site, or of an epoch that isn't yet.
+    /// No id of this site, or none that the log can tell of, and why: of another world or site, or of an epoch that isn't yet. So too
+    /// of a position, and of one that isn't ahead of the transaction: nothing was committed.
     Id(String),
     /// No key: one is 1 to 64 of `A-Z a-z 0-9 . _ -`.
     Key(String),
@@ -121,10 +121,22 @@ fn is_field(text: &str) -> bool {
     (1..=32).contains(&text.len()) && text.bytes().all(|it| matches!(it, b'a'..=b'z' | b'0'..=b'9' | b'_'))
 }
 
-fn check_key(text: &str) -> Result<(), Fault> {
-    let is_key = (1..=64).contains(&text.len()) && text.bytes().all(|it| it.is_ascii_alphanumeric() || b"._-".contains(&it));
-    is_key.then_some(()).ok_or_else(|| Fault::Key(text.to_string()))
+fn is_key(text: &str) -> bool {
+    (1..=64).contains(&text.len()) && text.bytes().all(|it| it.is_ascii_alphanumeric() || b"._-".contains(&it))
 }
+
+/// How lines name a transaction: its epoch, and its number there.
+type Place = (u32, u64);
+
+fn place(line: &str) -> Option<Place> {
+    line.split_once('.').and_then(|(epoch, number)| Some((whole(epoch)?, whole(number)?.into())))
+}
+
+fn of_id(id: &str, why: &str) -> Fault {
+    Fault::Id(format!("{id:?}: {why}"))
+}
+
+const UNBEGUN: &str = "no transaction of this id was begun yet";
 
 /// The reply by which a change is refused, of those to its begin and its escrow.
 fn refusal(heard: &Heard) -> Option<&String> {
@@ -156,7 +168,9 @@ impl Site {
             }
         };
         let lines = Lines::new(epoch, Box::new(pipe), None, true);
-        Ok(Site::new(world, number, String::new(), (epoch, may_forget), lines, Some(child), output))
+        let mut site = Site::new([world, number, String::new()], (epoch, may_forget), lines, output);
+        site.child = Some(child);
+        Ok(site)
     }
 
     /// Comes in by the door at this path (`python3 -m escrow.door FOLDER --socket PATH`), which other processes use too. Waits up to
@@ -165,22 +179,15 @@ impl Site {
         let hello = door::come_in(path, Duration::from_secs(10))?;
         let peer = || hello.input.get_ref().try_clone().map_err(Fault::Io);
         let lines = Lines::new(hello.ready.0, Box::new(peer()?), Some(peer()?), hello.is_direct);
-        Ok(Site::new(hello.world, hello.number, hello.header, hello.ready, lines, None, hello.input))
+        Ok(Site::new([hello.world, hello.number, hello.header], hello.ready, lines, hello.input))
     }
 
-    fn new(
-        world: String,
-        number: String,
-        header: String,
-        (epoch, may_forget): (u32, bool),
-        lines: Arc<Lines>,
-        child: Option<Child>,
-        input: impl BufRead + Send + 'static,
-    ) -> Site {
+    fn new(names: [String; 3], ready: (u32, bool), lines: Arc<Lines>, input: impl BufRead + Send + 'static) -> Site {
+        let ([world, number, header], (epoch, may_forget)) = (names, ready);
         let reads = lines.clone();
         let reader = Some(thread::spawn(move || reads.read(input)));
         let (keys, open) = (Mutex::default(), Mutex::default());
-        Site { world, number, epoch, may_forget, header, limit: None, lines, child, reader, keys, open }
+        Site { world, number, epoch, may_forget, header, limit: None, lines, child: None, reader, keys, open }
     }
 
     /// From now on each call has this time, and the end of this site too, which is then by force. Over a process the writing itself
@@ -243,10 +250,8 @@ impl Site {
     /// again. It asks this site nothing; over a process others wait as long as it takes, and over a door it costs a trip.
     pub fn change_before<E>(&self, field: &str, change: i64, write: impl FnOnce(&str) -> Result<(), E>) -> Result<Change, E> {
         if self.lines.is_door() {
-            return match self.begin(field, change) {
-                Ok(begun) => write(&begun.id).map(|()| begun.commit()), // dropped, it is aborted
-                Err(told) => Ok(told),
-            };
+            // dropped, it is aborted
+            return self.begin(field, change).map_or_else(Ok, |begun| write(&begun.id).map(|()| begun.commit()));
         } else if let Err(told) = self.check(field) {
             return Ok(told);
         }
@@ -266,10 +271,11 @@ impl Site {
 
     /// As [`Site::change`], in two trips, once for each key however often it is asked for: 1 to 64 of `A-Z a-z 0-9 . _ -`, as the
     /// number of an order. The id is that of the commit that has the key, which may be an earlier one. So after anything but
-    /// `Refused` ask for the same again, with the same key. Over a log that may be shortened it takes a third trip: the fault is
-    /// `Forgotten` where an earlier one may have the key, and then nothing is committed.
-    pub fn change_by_key(&self, field: &str, change: i64, key: &str) -> Result<Change, Fault> {
-        check_key(key)?;
+    /// `Refused` ask for the same again, with the same key. The fault is `Forgotten` where the log was shortened, and may have let go
+    /// of an earlier one: then nothing is committed. By `since` a new key is told from such a one: what [`Site::position`] told, and
+    /// the program's own books had beside the order, before it was first asked for.
+    pub fn change_by_key(&self, field: &str, change: i64, key: &str, since: Option<&str>) -> Result<Change, Fault> {
+        self.key_line(key, since, None)?;
         let others = |by: fn(&mut usize)| {
             let mut keys = lock(&self.keys);
             let many = keys.entry(key.to_string()).or_default();
@@ -280,10 +286,10 @@ impl Site {
         };
         others(|many| *many += 1);
         let told = match self.begin(field, change) {
-            Ok(begun) => begun.commit_by_key(key),
+            Ok(begun) => begun.commit_by_key(key, since),
             Err(Change::Refused(why)) => {
                 let has_others = others(|_| ()) > 1; // asked ahead of what is kept: it may commit in between
-                self.kept_key(key).map(|kept| match kept {
+                self.kept_key(key, since).map(|kept| match kept {
                     Some(id) => Change::Committed(id),
                     None if has_others => Change::Busy,
                     None => Change::Refused(why),
@@ -292,10 +298,52 @@ impl Site {
             Err(told) => Ok(told),
         };
         others(|many| *many -= 1);
-        match told {
-            Err(Fault::Stopped) => Ok(Change::Busy),
-            told => told,
+        told.or_else(|fault| if let Fault::Stopped = fault { Ok(Change::Busy) } else { Err(fault) })
+    }
+
+    /// Where this site is now, for the `since` of a key: its newest transaction, or one of number 0 at its start. Write it down beside
+    /// the order **before the order is first asked for**, and give that one each time. Over a door it costs a trip.
+    pub fn position(&self) -> Result<String, Fault> {
+        if let Some(begun) = self.begun() {
+            return Ok(self.id_of(&format!("{}.{begun}", self.epoch)));
         }
+        let heard = self.lines.ask("position", vec!["position".to_string()], self.end_of_call());
+        self.id_told(heard.replies.into_iter().next().ok_or(Fault::Stopped)?, "")
+    }
+
+    /// How many transactions this process was asked to begin; None over a door, or where it has ended.
+    fn begun(&self) -> Option<u64> {
+        let tell = |begun, _: &str| Err::<Vec<String>, u64>(begun);
+        self.lines.ask_program(0, tell, None).err().filter(|_| !self.lines.is_door())
+    }
+
+    /// How lines tell a key, with its position where the log may be shortened: older programs don't know that. The position has to be
+    /// ahead of this transaction, which is to have the key, or of the next one.
+    fn key_line(&self, key: &str, since: Option<&str>, own: Option<Place>) -> Result<String, Fault> {
+        let Some(since) = since.filter(|_| is_key(key)) else {
+            return is_key(key).then(|| format!("key {key}")).ok_or_else(|| Fault::Key(key.to_string()));
+        };
+        let (at, own) = (self.place_of(since)?, own.unwrap_or((self.epoch, self.begun().map_or(u64::MAX, |it| it + 1))));
+        match self.may_forget {
+            _ if at >= own => Err(of_id(since, &format!("isn't ahead of transaction {}.{}", own.0, own.1))),
+            true => Ok(format!("key {key} since {}.{}", at.0, at.1)),
+            false => Ok(format!("key {key}")),
+        }
+    }
+
+    /// How lines name the transaction of an id, of an epoch that is begun.
+    fn place_of(&self, id: &str) -> Result<Place, Fault> {
+        let (front, line) = id.rsplit_once('-').unwrap_or(("", id));
+        let (world, site) = front.split_once('-').unwrap_or((front, &self.number));
+        let told = place(line).ok_or_else(|| of_id(id, "is no id"))?;
+        if !front.is_empty() && world != self.world {
+            return Err(of_id(id, "this id is of another world: look in the old folder's log"));
+        } else if site != self.number {
+            return Err(of_id(id, &format!("this id is of site {site}: ask that one")));
+        } else if told.0 > self.epoch {
+            return Err(of_id(id, "its epoch is later than any of the log: an older log was put back"));
+        }
+        Ok(told)
     }
 
     /// Begins a transaction by its first change. A process has places for 63, and a connection for at most 32, shared with the other
@@ -326,51 +374,35 @@ impl Site {
     /// has let go of what would tell: that isn't no. An id tells its world and its site; clients of earlier days told no site, and
     /// before that no world.
     pub fn kept(&self, id: &str) -> Result<Option<bool>, Fault> {
-        let fault = |why: &str| Fault::Id(format!("{id:?}: {why}"));
-        let (later, unbegun) =
-            ("its epoch is later than any of the log: an older log was put back", "no transaction of this id was begun yet");
-        let (front, line) = id.rsplit_once('-').unwrap_or(("", id));
-        let (world, site) = front.split_once('-').unwrap_or((front, &self.number));
-        let numbers = line.split_once('.').and_then(|(epoch, number)| Some((whole(epoch)?, whole(number)?)));
-        let (epoch, number) = numbers.ok_or_else(|| fault("is no id"))?;
-        if !front.is_empty() && world != self.world {
-            return Err(fault("this id is of another world: look in the old folder's log"));
-        } else if site != self.number {
-            return Err(fault(&format!("this id is of site {site}: ask that one")));
-        }
-        if lock(&self.open).contains(&format!("{epoch}.{number}")) {
+        let at = self.place_of(id)?;
+        if lock(&self.open).contains(&format!("{}.{}", at.0, at.1)) {
             return Ok(None);
         }
-        let (asked, end) = (vec![format!("kept {epoch}.{number}")], self.end_of_call());
+        let (asked, end) = (vec![format!("kept {}.{}", at.0, at.1)], self.end_of_call());
         let heard = if self.lines.is_door() {
             self.lines.ask(&asked[0].clone(), asked, end)
         } else {
-            let ask = |begun, _: &str| match epoch.cmp(&self.epoch) {
-                Ordering::Greater => Err(fault(later)),
-                Ordering::Equal if u64::from(number) > begun => Err(fault(unbegun)),
-                _ => Ok(asked),
-            };
+            let ask = |begun, _: &str| if at > (self.epoch, begun) { Err(of_id(id, UNBEGUN)) } else { Ok(asked) };
             self.lines.ask_program(0, ask, end)?
         };
         match heard.replies.first().map(String::as_str) {
             None | Some("open") => Ok(None),
             Some(reply @ ("yes" | "no")) => Ok(Some(reply == "yes")),
             Some("forgotten") => Err(Fault::Forgotten(id.to_string())),
-            Some("later") => Err(fault(later)),
-            Some("unbegun") => Err(fault(unbegun)),
+            Some("unbegun") => Err(of_id(id, UNBEGUN)),
             Some(other) => Err(Fault::Line(other.to_string())),
         }
     }
 
     /// The id of the commit that has this key; None where none has it by now: a change under way may commit yet. The fault is
-    /// `Forgotten` where the log was shortened, and may have let go of one.
-    pub fn kept_key(&self, key: &str) -> Result<Option<String>, Fault> {
-        check_key(key)?;
-        let asked = format!("kept key {key}");
+    /// `Forgotten` where the log was shortened, and may have let go of one: by `since`, as of [`Site::change_by_key`].
+    pub fn kept_key(&self, key: &str, since: Option<&str>) -> Result<Option<String>, Fault> {
+        let asked = format!("kept {}", self.key_line(key, since, None)?);
         let heard = self.lines.ask(&asked.clone(), vec![asked], self.end_of_call());
         match heard.replies.into_iter().next() {
             None => Err(Fault::Stopped),
             Some(reply) if reply == "no" => Ok(None),
+            Some(reply) if reply == "unbegun" => Err(of_id(since.unwrap_or_default(), UNBEGUN)),
             Some(reply) => self.id_told(reply, key).map(Some),
         }
     }
@@ -380,8 +412,7 @@ impl Site {
         if reply == "forgotten" {
             return Err(Fault::Forgotten(key.to_string()));
         }
-        let numbers = reply.split_once('.').and_then(|(epoch, number)| Some((whole(epoch)?, whole(number)?)));
-        numbers.map(|_| self.id_of(&reply)).ok_or(Fault::Line(reply)) // a program that doesn't know keys
+        place(&reply).map(|_| self.id_of(&reply)).ok_or(Fault::Line(reply)) // a program that doesn't know keys
     }
 
     /// Between which values the field lies, as `between 17 67`; None where a stop, or its time, came before the answer.
@@ -466,38 +497,30 @@ impl Transaction<'_> {
     }
 
     /// As `commit`, once for each key: where a commit with the key is kept already nothing is changed, what was set aside comes back,
-    /// and the id is that of the earlier one. The fault is `Forgotten` where the log may have let go of that.
-    pub fn commit_by_key(self, key: &str) -> Result<Change, Fault> {
-        check_key(key)?;
-        if self.site.may_forget && self.is_open {
-            // to the program itself a key that it has let go of is a new one
-            match self.site.kept_key(key) {
-                Ok(None) => {}
-                Ok(Some(id)) => return Ok(Change::Committed(id)),
-                Err(Fault::Stopped) => return Ok(Change::Lost(self.id.clone())),
-                Err(fault) => return Err(fault),
-            }
-        }
-        self.commit_with(Some(key))
+    /// and the id is that of the earlier one. The fault is `Forgotten` where the log may have let go of that; `since` is as of
+    /// [`Site::change_by_key`], from before this transaction began.
+    pub fn commit_by_key(self, key: &str, since: Option<&str>) -> Result<Change, Fault> {
+        let told = self.site.key_line(key, since, place(&self.line))?;
+        self.commit_with(Some((key, told)))
     }
 
-    fn commit_with(mut self, key: Option<&str>) -> Result<Change, Fault> {
+    fn commit_with(mut self, key: Option<(&str, String)>) -> Result<Change, Fault> {
         let (site, id) = (self.site, self.id.clone());
         if !self.is_open {
             return Ok(Change::Lost(id));
         }
         let (commit, abort) = (format!("{} commit {}", site.number, self.line), format!("{} abort {}", site.number, self.line));
-        let lines = match key {
+        let lines = match &key {
             None => vec![commit],
-            Some(key) if site.lines.is_door() => vec![format!("{commit} key {key}")], // it aborts by itself
-            Some(key) => vec![format!("{commit} key {key}"), abort],
+            Some((_, told)) if site.lines.is_door() => vec![format!("{commit} {told}")], // it aborts by itself
+            Some((_, told)) => vec![format!("{commit} {told}"), abort],
         };
         let heard = site.lines.ask(&lines[0].clone(), lines, site.end_of_call());
         self.is_open = false;
         match heard.replies.into_iter().next() {
             Some(reply) if reply == "committed" => Ok(Change::Committed(id)),
             Some(reply) if key.is_none() || reply.starts_with("refused ") => Ok(Change::Refused(reply)),
-            Some(reply) => site.id_told(reply, key.unwrap_or_default()).map(Change::Committed),
+            Some(reply) => site.id_told(reply, key.map_or("", |it| it.0)).map(Change::Committed),
             None if heard.is_taken || !site.lines.is_direct() => Ok(Change::InDoubt(id)),
             None => Ok(Change::Lost(id)),
         }

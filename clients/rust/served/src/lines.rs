@@ -89,9 +89,10 @@ fn reply_to<'a>(asked: &str, line: &'a str) -> Option<&'a str> {
     if let Some(why) = line.strip_prefix("bad line") {
         return (!asked.ends_with(" begin")).then(|| why.trim_start_matches([':', ' ']));
     }
-    let (front, key) = asked.split_once(" key ").unwrap_or((asked, ""));
-    let told = line.strip_prefix(front).and_then(|it| it.strip_prefix(" -> "));
-    told.or_else(|| line.strip_prefix(&format!("kept key {key} -> ")).filter(|_| !key.is_empty()))
+    let (front, told) = asked.split_once(" key ").unwrap_or((asked, ""));
+    let kept = format!("kept key {}", told.split(' ').next().unwrap_or_default()); // behind the key may stand its position
+    let fronts = [asked, front, &kept];
+    fronts.iter().find_map(|it| line.strip_prefix(it)?.strip_prefix(" -> "))
 }
 
 impl Lines {

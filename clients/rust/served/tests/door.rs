@@ -127,14 +127,14 @@ fn try_calls(site: &Site) {
     assert!(thread::scope(|scope| scope.spawn(|| site.change_before::<()>("stock", -1, |_| panic!("gone"))).join()).is_err());
     assert_eq!((site.share("stock").as_deref(), site.read("stock").as_deref()), (Some("share 16 34"), Some("between 16 66")));
     // By a key.
-    let order = committed(site.change_by_key("stock", -2, "order-1").unwrap());
-    assert_eq!(site.change_by_key("stock", -2, "order-1").unwrap(), Change::Committed(order.clone()));
-    assert_eq!(site.change_by_key("stock", -15, "order-1").unwrap(), Change::Committed(order.clone())); // there are 14
-    assert_eq!(refused(&site.change_by_key("stock", -15, "order-2").unwrap()), "refused 7 short 14");
-    assert_eq!((site.kept_key("order-1").unwrap(), site.kept_key("order-2").unwrap()), (Some(order.clone()), None));
+    let order = committed(site.change_by_key("stock", -2, "order-1", None).unwrap());
+    assert_eq!(site.change_by_key("stock", -2, "order-1", None).unwrap(), Change::Committed(order.clone()));
+    assert_eq!(site.change_by_key("stock", -15, "order-1", None).unwrap(), Change::Committed(order.clone())); // there are 14
+    assert_eq!(refused(&site.change_by_key("stock", -15, "order-2", None).unwrap()), "refused 7 short 14");
+    assert_eq!((site.kept_key("order-1", None).unwrap(), site.kept_key("order-2", None).unwrap()), (Some(order.clone()), None));
     for key in ["", "a b", "a\n0 begin", "a/b", &"x".repeat(65)] {
-        assert!(matches!(site.change_by_key("stock", -1, key), Err(Fault::Key(_))), "{key:?}");
-        assert!(matches!(site.kept_key(key), Err(Fault::Key(_))), "{key:?}");
+        assert!(matches!(site.change_by_key("stock", -1, key, None), Err(Fault::Key(_))), "{key:?}");
+        assert!(matches!(site.kept_key(key, None), Err(Fault::Key(_))), "{key:?}");
     }
     // Transactions.
     let mut both = site.begin("stock", -4).unwrap_or_else(|told| panic!("{told:?}"));
@@ -144,12 +144,12 @@ fn try_calls(site: &Site) {
     assert_eq!((both.commit(), site.kept(&id).unwrap()), (Change::Committed(id.clone()), Some(true)));
     let again = site.begin("stock", -10).unwrap_or_else(|told| panic!("{told:?}"));
     let id = again.id().to_string();
-    assert_eq!(again.commit_by_key("order-1").unwrap(), Change::Committed(order.clone()));
+    assert_eq!(again.commit_by_key("order-1", None).unwrap(), Change::Committed(order.clone()));
     assert_eq!((site.kept(&id).unwrap(), site.share("stock").as_deref()), (Some(false), Some("share 10 40")));
     drop(site.begin("stock", -10));
     site.begin("stock", -10).unwrap_or_else(|told| panic!("{told:?}")).abort();
     assert_eq!((site.share("stock").as_deref(), site.share("seats").as_deref()), (Some("share 10 40"), Some("share 0 50")));
-    assert!(matches!(site.begin("stock", -1).map(|it| it.commit_by_key("a b")), Ok(Err(Fault::Key(_)))));
+    assert!(matches!(site.begin("stock", -1).map(|it| it.commit_by_key("a b", None)), Ok(Err(Fault::Key(_)))));
     assert_eq!(site.share("stock").as_deref(), Some("share 10 40"));
     let front = first.strip_suffix("1.1").unwrap();
     for (id, why) in [("1.99", "begun yet"), ("9.1", "older log"), ("1", "is no id"), ("1.1\n0 begin", "is no id")] {
@@ -201,7 +201,7 @@ fn try_places(site: &Site, places: usize) {
             let at_once = &at_once;
             scope.spawn(move || {
                 at_once.wait();
-                while site.change_by_key("seats", -1, &format!("{}", number % 20)).unwrap() == Change::Busy {}
+                while site.change_by_key("seats", -1, &format!("{}", number % 20), None).unwrap() == Change::Busy {}
                 // the other has it
             });
         }
@@ -262,9 +262,9 @@ fn what_a_door_has_not_taken_is_busy_and_never_made() {
     door.signal("STOP");
     let began = Instant::now();
     assert_eq!(site.change("stock", -1), Change::Busy);
-    assert_eq!(site.change_by_key("stock", -1, "a").unwrap(), Change::Busy);
+    assert_eq!(site.change_by_key("stock", -1, "a", None).unwrap(), Change::Busy);
     assert_eq!((site.read("stock"), site.kept(&id).unwrap()), (None, None));
-    assert!(matches!(site.kept_key("a"), Err(Fault::Stopped)));
+    assert!(matches!(site.kept_key("a", None), Err(Fault::Stopped)));
     assert_eq!(held.change("seats", -1), Err(Change::Lost(id.clone())));
     assert_eq!(held.commit(), Change::Lost(id.clone()));
     assert!(began.elapsed() < Duration::from_secs(9) && !site.is_up());
@@ -285,13 +285,13 @@ fn what_it_has_taken_is_in_doubt_with_its_id() {
     let told = site.change("stock", -1);
     let Change::InDoubt(id) = &told else { panic!("{told:?}") };
     assert!(id.ends_with("-0-1.2") && site.is_up());
-    let Ok(Change::InDoubt(order)) = held.commit_by_key("order") else { panic!("it was answered") };
-    let Ok(Change::Lost(third)) = site.change_by_key("stock", -1, "third") else { panic!("it was answered") };
+    let Ok(Change::InDoubt(order)) = held.commit_by_key("order", None) else { panic!("it was answered") };
+    let Ok(Change::Lost(third)) = site.change_by_key("stock", -1, "third", None) else { panic!("it was answered") };
     signal("CONT", served);
     until(|| site.share("stock").is_some());
-    assert_eq!((site.kept(id).unwrap(), site.kept_key("order").unwrap()), (Some(true), Some(order.clone())));
-    assert_eq!((site.kept(&third).unwrap(), site.kept_key("third").unwrap()), (Some(false), None));
-    assert_eq!(site.change_by_key("stock", -2, "order").unwrap(), Change::Committed(order));
+    assert_eq!((site.kept(id).unwrap(), site.kept_key("order", None).unwrap()), (Some(true), Some(order.clone())));
+    assert_eq!((site.kept(&third).unwrap(), site.kept_key("third", None).unwrap()), (Some(false), None));
+    assert_eq!(site.change_by_key("stock", -2, "order", None).unwrap(), Change::Committed(order));
     assert_eq!(site.share("stock").as_deref(), Some("share 17 33"));
     // A door that dies once it has taken it.
     signal("STOP", served);
@@ -308,7 +308,7 @@ fn what_it_has_taken_is_in_doubt_with_its_id() {
     let (_, told, site) = asks.join().unwrap();
     let Change::InDoubt(id) = &told else { panic!("{told:?}") };
     assert_eq!((site.change("stock", -1), site.is_up()), (Change::Busy, false));
-    assert!(matches!(site.kept_key("order"), Err(Fault::Stopped)));
+    assert!(matches!(site.kept_key("order", None), Err(Fault::Stopped)));
     door.start();
     let site = door.site();
     let share = if site.kept(id).unwrap().unwrap() { "share 16 34" } else { "share 17 33" };
@@ -329,11 +329,11 @@ fn a_stop_of_the_process_loses_what_is_open() {
     signal("KILL", served);
     until(|| !site.is_up());
     let lost = held.id().to_string();
-    assert_eq!((held.commit_by_key("a").unwrap(), site.change("stock", -1)), (Change::Lost(lost.clone()), Change::Busy));
+    assert_eq!((held.commit_by_key("a", None).unwrap(), site.change("stock", -1)), (Change::Lost(lost.clone()), Change::Busy));
     assert!(site.change_before("stock", -1, |_| Err::<(), ()>(())).unwrap() == Change::Busy);
     assert!(!site.end().unwrap().success());
     let site = Site::start(&program, &folder).unwrap();
-    assert_eq!((site.kept(&lost).unwrap(), site.kept_key("a").unwrap()), (Some(false), None));
+    assert_eq!((site.kept(&lost).unwrap(), site.kept_key("a", None).unwrap()), (Some(false), None));
     let left = if site.kept(&id).unwrap().unwrap() { "share 19 31" } else { "share 20 30" };
     assert_eq!(site.share("stock").as_deref(), Some(left));
 }

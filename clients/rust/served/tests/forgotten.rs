@@ -1,5 +1,5 @@
-//! A log that lets go of its front, over `$ESCROW_PYTHON/tests/forgetful_site.py`, which stands in for the program of the next
-//! release: nothing that it has let go of is sold twice. The other words of the environment are those of `door.rs`.
+//! A log that lets go of its front, over `$ESCROW_PYTHON/tests/forgetful_site.py`, which stands in for the program: nothing that it
+//! has let go of is sold twice, and by its position a new key is sold. The other words of the environment are those of `door.rs`.
 use escrow_served::{Change, Fault, Site};
 use std::env::var;
 use std::fs;
@@ -74,23 +74,23 @@ fn is_forgotten<T>(told: Result<T, Fault>, what: &str) -> bool {
 
 /// What a site tells of what it has let go of.
 fn try_forgotten(folder: &str, site: &Site) {
-    let first = committed(site.change_by_key("stock", -3, "order").unwrap());
-    assert_eq!(committed(site.change_by_key("stock", -3, "order").unwrap()), first);
+    let first = committed(site.change_by_key("stock", -3, "order", None).unwrap());
+    assert_eq!(committed(site.change_by_key("stock", -3, "order", None).unwrap()), first);
     let begun = site.begin("stock", -3).unwrap();
-    assert_eq!((committed(begun.commit_by_key("order").unwrap()), sold(folder)), (first.clone(), 1));
-    assert_eq!((site.kept_key("order").unwrap(), site.kept_key("other").unwrap()), (Some(first.clone()), None));
+    assert_eq!((committed(begun.commit_by_key("order", None).unwrap()), sold(folder)), (first.clone(), 1));
+    assert_eq!((site.kept_key("order", None).unwrap(), site.kept_key("other", None).unwrap()), (Some(first.clone()), None));
     tell(folder, r#"{"horizon": [1, 9]}"#);
-    assert!(is_forgotten(site.kept(&first), &first) && is_forgotten(site.kept_key("order"), "order"));
-    assert!(is_forgotten(site.change_by_key("stock", -3, "order"), "order"), "it would be sold twice");
-    assert!(is_forgotten(site.change_by_key("stock", -300, "order"), "order"), "it may be sold, and not short");
-    assert!(is_forgotten(site.begin("stock", -3).unwrap().commit_by_key("order"), "order"));
+    assert!(is_forgotten(site.kept(&first), &first) && is_forgotten(site.kept_key("order", None), "order"));
+    assert!(is_forgotten(site.change_by_key("stock", -3, "order", None), "order"), "it would be sold twice");
+    assert!(is_forgotten(site.change_by_key("stock", -300, "order", None), "order"), "it may be sold, and not short");
+    assert!(is_forgotten(site.begin("stock", -3).unwrap().commit_by_key("order", None), "order"));
     assert_eq!((site.share("stock"), sold(folder)), (Some("share 17 33".to_string()), 1));
     tell(folder, r#"{"keyed": "forgotten"}"#);
-    assert!(is_forgotten(site.change_by_key("stock", -3, "new"), "new"));
-    tell(folder, r#"{"word": "perhaps"}"#);
+    assert!(is_forgotten(site.change_by_key("stock", -3, "new", None), "new"));
+    tell(folder, r#"{"word": "perhaps", "keyed": "perhaps"}"#);
     assert!(matches!(site.kept(&first), Err(Fault::Line(it)) if it == "perhaps"));
-    assert!(matches!(site.kept_key("order"), Err(Fault::Line(it)) if it == "perhaps"));
-    assert!(matches!(site.change_by_key("stock", -3, "new"), Err(Fault::Line(it)) if it == "perhaps"));
+    assert!(matches!(site.kept_key("order", None), Err(Fault::Line(it)) if it == "perhaps"));
+    assert!(matches!(site.change_by_key("stock", -3, "new", None), Err(Fault::Line(it)) if it == "perhaps"));
     assert_eq!((site.share("stock"), sold(folder)), (Some("share 17 33".to_string()), 1));
 }
 
@@ -104,6 +104,72 @@ fn what_is_forgotten_is_never_sold_again() {
     let door = Door::new(&folder, &format!("{folder}.door"));
     try_forgotten(&folder, &Site::connect(&format!("{folder}.door")).unwrap());
     drop(door);
+}
+
+/// Sells by keys with their positions, 1 each: new ones are sold over a shortened log, and what was let go of isn't.
+fn try_positions(folder: &str, site: &Site) {
+    let start = site.position().unwrap();
+    assert!(start.ends_with("-0-1.0"), "{start}");
+    let by_change = |key: &str, since: &str| site.change_by_key("stock", -1, key, Some(since));
+    let by_commit = |key: &str, since: &str| site.begin("stock", -1).unwrap().commit_by_key(key, Some(since));
+    let first = committed(by_change("first", &start).unwrap());
+    assert_eq!(site.position().unwrap(), first);
+    tell(folder, r#"{"horizon": [1, 1]}"#);
+    let ways: [(&str, &dyn Fn(&str, &str) -> Result<Change, Fault>); 2] = [("change", &by_change), ("commit", &by_commit)];
+    for (name, sell) in ways {
+        for key in ["first", name] {
+            assert!(is_forgotten(sell(key, &start), key), "its position is of before the horizon");
+            assert!(is_forgotten(site.kept_key(key, Some(&start)), key));
+        }
+        let (since, many) = (site.position().unwrap(), sold(folder));
+        let id = committed(sell(name, &since).unwrap());
+        assert_eq!((committed(sell(name, &since).unwrap()), sold(folder)), (id.clone(), many + 1));
+        assert_eq!(site.kept_key(name, Some(&since)).unwrap(), Some(id));
+    }
+    assert_eq!(site.kept_key("new", Some(&first)).unwrap(), None);
+    assert!(matches!(site.change_by_key("stock", -300, "new", Some(&first)), Ok(Change::Refused(_))));
+    let front = start.strip_suffix("0-1.0").unwrap();
+    let others = ["01234567-0-1.0", &format!("{front}1-1.0"), &format!("{front}0-2.0"), &format!("{front}0-1.900"), "now", ""];
+    for since in others {
+        assert!(matches!(site.kept_key("new", Some(since)), Err(Fault::Id(_))), "{since}");
+        assert!(matches!(by_change("new", since), Err(Fault::Id(_))) && matches!(by_commit("new", since), Err(Fault::Id(_))));
+    }
+    let begun = site.begin("stock", -1).unwrap();
+    let fault = begun.commit_by_key("open", Some(&site.position().unwrap())).unwrap_err().to_string();
+    assert!(fault.contains("isn't ahead of transaction 1."), "{fault}");
+    assert_eq!((site.share("stock"), sold(folder)), (Some("share 17 33".to_string()), 3));
+}
+
+#[test]
+fn a_new_key_is_sold_by_its_position() {
+    let folder = forgetful("positions", "{}");
+    let site = Site::start(&program(), &folder).unwrap();
+    try_positions(&folder, &site);
+    site.end().unwrap();
+    let folder = forgetful("positions-behind-a-door", "{}");
+    let door = Door::new(&folder, &format!("{folder}.door"));
+    let (ours, other) = (Site::connect(&format!("{folder}.door")).unwrap(), Site::connect(&format!("{folder}.door")).unwrap());
+    try_positions(&folder, &ours);
+    assert_eq!(committed(other.change("stock", -1)), ours.position().unwrap());
+    drop(door);
+}
+
+#[test]
+fn a_position_tells_behind_a_stop() {
+    for stop in ["ahead", "behind"] {
+        let folder = forgetful(&format!("position-{stop}"), &format!(r#"{{"stop": "{stop}", "then": {{"horizon": [1, 0]}}}}"#));
+        let site = Site::start(&program(), &folder).unwrap();
+        let since = site.position().unwrap();
+        let Ok(Change::InDoubt(doubt)) = site.change_by_key("stock", -3, "order", Some(&since)) else {
+            panic!("it was answered")
+        };
+        drop(site);
+        let site = Site::start(&program(), &folder).unwrap();
+        let id = committed(site.change_by_key("stock", -3, "order", Some(&since)).unwrap());
+        assert_eq!((sold(&folder), id == doubt), (1, stop == "behind"));
+        tell(&folder, r#"{"horizon": [9, 0]}"#);
+        assert!(is_forgotten(site.change_by_key("stock", -3, "order", Some(&since)), "order") && sold(&folder) == 1);
+    }
 }
 
 #[test]
@@ -120,10 +186,13 @@ fn a_stop_leaves_it_in_doubt_for_good() {
 }
 
 #[test]
-fn a_log_that_is_whole_is_asked_nothing_more() {
-    let folder = forgetful("whole", r#"{"version": 1, "word": "perhaps"}"#);
+fn a_log_that_is_whole_is_told_no_position() {
+    let folder = forgetful("whole", r#"{"version": 1}"#);
     let site = Site::start(&program(), &folder).unwrap();
-    committed(site.change_by_key("stock", -3, "order").unwrap());
+    let since = site.position().unwrap();
+    let id = committed(site.change_by_key("stock", -3, "order", Some(&since)).unwrap());
+    assert_eq!(site.kept_key("order", Some(&since)).unwrap(), Some(id));
+    assert!(!fs::read_to_string(format!("{folder}/lines")).unwrap().contains("since"));
 }
 
 #[test]

@@ -1,0 +1,97 @@
+//! A log of which each part that it lets go of is kept.
+
+ghost use Rattle.std.specs.Prelude.{◌≡◌};
+
+use crate::linked::folder_of;
+use file_medium::{FileFailed, LogFile};
+use file_swap::PutFault;
+use folder_archives::part_path;
+use log_head::Gone;
+use short_log::ShortLog;
+use std::fs::{self, File};
+use std::io::{self, ErrorKind};
+use world_folders::Paths;
+
+// Gives the file of the log another name beside its own, safe from a stop of the machine. One that had
+// it is removed first: a stop between this and the shortening has left it.
+fn keep_part(rt: &HostRuntime, paths: &Paths, gone: u64) -> io::Result<()> {
+    let Ok(path) = part_path(rt.alloc(), paths, gone) else {
+        return Err(io::Error::from(ErrorKind::OutOfMemory));
+    };
+    match fs::remove_file(rt, path.as_str()) {
+        Ok(()) => {}
+        Err(error) if error.kind() == ErrorKind::NotFound => {}
+        Err(error) => return Err(error),
+    }
+    File::open(rt, paths.log.as_str())?.sync_all()?;
+    fs::hard_link(rt, paths.log.as_str(), path.as_str())?;
+    File::open(rt, folder_of(paths.log.as_str()))?.sync_all()
+}
+
+/// The log of a folder. Where its parts are kept, it stays as it was behind each shortening, as
+/// `log.GONE`, where GONE are the bytes that the head of the new log tells to be gone: a second name of
+/// its file, made and synced before the new file takes the place of the first; where that fails nothing
+/// changes, and the log isn't shortened. A stop in between leaves a name that no head asks for, of a file
+/// that is still the log: the next shortening up to there removes it. Costs no room but that of the file,
+/// which isn't given back to the disk then, and two syncs. That the part is there is read, and not
+/// proved: no contract can see a folder.
+#[derive(Drop)]
+pub(crate) struct ArchivedLog<'a, L: ShortLog + Drop> {
+    rt: &'a HostRuntime,
+    paths: &'a Paths,
+    log: L,
+    is_archived: bool,
+}
+
+impl<'a, L: ShortLog + Drop> ArchivedLog<'a, L> {
+    pub(crate) fn new(
+        rt: &'a HostRuntime,
+        paths: &'a Paths,
+        log: L,
+        is_archived: bool,
+    ) -> ArchivedLog<'a, L>
+        ensures log { result.log ≡ log }
+    {
+        ArchivedLog {
+            rt,
+            paths,
+            log,
+            is_archived,
+        }
+    }
+}
+
+impl<'a, L: ShortLog + Drop> LogFile for ArchivedLog<'a, L> {
+    ghost bytes = { λ f. L.bytes f.log };
+
+    ghost safe = { λ f. L.safe f.log };
+
+    ghost least = { λ f. L.least f.log };
+
+    fn read_at(&mut self, at: u64, buffer: &mut [u8]) -> Result<usize, FileFailed> {
+        self.log.read_at(at, buffer)
+    }
+
+    fn write(&mut self, piece: &[u8]) -> Result<usize, FileFailed> {
+        self.log.write(piece)
+    }
+
+    fn cut(&mut self, kept: u64) -> Result<(), FileFailed> {
+        self.log.cut(kept)
+    }
+
+    fn sync(&mut self) -> Result<(), FileFailed> {
+        self.log.sync()
+    }
+}
+
+impl<'a, L: ShortLog + Drop> ShortLog for ArchivedLog<'a, L> {
+    ghost gone = { λ f. L.gone f.log };
+
+    fn replace(&mut self, front: &Gone, held: &[u8]) -> Result<(), PutFault> {
+        if self.is_archived && keep_part(self.rt, self.paths, front.bytes).is_err() {
+            return Err(PutFault::Refused);
+        }
+        self.log.replace(front, held)
+    }
+}
