@@ -125,7 +125,7 @@ fn damaged_fault<F: LogFile>(
 }
 
 /// Why the log of a folder isn't opened, as a fault at its path, or at the folder's where its world was
-/// settled.
+/// settled. Where a batch is damaged the file is read once more, for the line at which that begins.
 pub fn short_fault<F: LogFile>(
     alloc: Global,
     paths: &Paths,

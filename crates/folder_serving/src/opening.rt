@@ -37,7 +37,7 @@ pub fn open_named<F: LogFile + Drop>(
 }
 
 /// The log of closed batches of a site, in a file behind its head, or why the file is none. What a stop
-/// left behind the batches is cut off.
+/// left behind the batches is cut off. Costs what `ShortFile::open` does.
 pub fn open_short<'a, F: LogFile + Drop>(
     alloc: Global,
     identity: &'a Identity,
@@ -80,7 +80,8 @@ fn copy_gone(alloc: Global, gone: &Gone) -> Result<Gone, AllocError>
     })
 }
 
-/// What the head of a log tells to be gone, or None where nothing is. The error is want of memory.
+/// What the head of a log tells to be gone, or None where nothing is. The error is want of memory. Costs
+/// memory for the transactions that the head lists.
 pub fn gone_of<F: LogFile>(
     alloc: Global,
     log: &ShortFile<'_, F>,

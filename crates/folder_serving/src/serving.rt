@@ -49,7 +49,8 @@ fn behind<'a>(bytes: &'a [u8], name: &[u8]) -> Option<&'a [u8]>
 }
 
 /// Refuses a log of version 1, whose front can't be let go. It stays as it is, and is read without its
-/// lock. The fault besides `Plain` is that it can't be read, or want of memory.
+/// lock. The fault besides `Plain` is that it can't be read, or want of memory. Costs a read of the log,
+/// and memory for it.
 pub fn refuse_plain<R: ReadsFiles>(
     files: &R,
     alloc: Global,
