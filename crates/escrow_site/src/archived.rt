@@ -3,9 +3,9 @@
 ghost use Rattle.std.specs.Prelude.{◌≡◌};
 
 use crate::linked::folder_of;
+use crate::parts::part_path;
 use file_medium::{FileFailed, LogFile};
 use file_swap::PutFault;
-use folder_archives::part_path;
 use log_head::Gone;
 use short_log::ShortLog;
 use std::fs::{self, File};

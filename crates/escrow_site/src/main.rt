@@ -9,6 +9,8 @@ mod creating;
 mod judging;
 mod linked;
 mod locking;
+mod part_fault;
+mod parts;
 mod serving;
 mod settling;
 mod showing;

@@ -1,9 +1,5 @@
 //! Where a part of a log lies, and how it begins.
 
-ghost use Rattle.std.specs.Prelude.{◌≡◌, ◌++◌, ℕ, List, IfOk, string_bytes};
-ghost use Rattle.folder_logs.specs.Files.{bytes_of};
-ghost use Rattle.folder_archives.specs.Verified.{BeginsAs, part_path};
-
 use held_logs::HeldLog;
 use itoa::Buffer;
 use log_head::Gone;
@@ -11,11 +7,8 @@ use std::alloc::{AllocError, Global};
 use world_folders::Paths;
 
 /// The path of the part that was the log of a folder before so many bytes were gone. The error is want
-/// of memory. Source: this project.
-pub fn part_path(alloc: Global, paths: &Paths, gone: u64) -> Result<String, AllocError>
-    ensures path { IfOk result (λ path. string_bytes path
-        ≡ part_path (string_bytes paths.now.log) gone) }
-{
+/// of memory.
+pub(crate) fn part_path(alloc: Global, paths: &Paths, gone: u64) -> Result<String, AllocError> {
     let mut buffer = Buffer::new();
     let mut path = String::from_str(alloc, paths.log.as_str())?;
     path.push_str(".")?;
@@ -32,9 +25,7 @@ pub(crate) struct Beginning {
 }
 
 // The first line of records with its line feed, or all where no line ends.
-fn first_line(alloc: Global, records: &[u8]) -> Result<Vec<u8>, AllocError>
-    ensures front { IfOk result (λ line. (more : List ℕ) × (records.now ≡ line.items ++ more)) }
-{
+fn first_line(alloc: Global, records: &[u8]) -> Result<Vec<u8>, AllocError> {
     match records.iter().position(|byte| *byte == b'\n') {
         Some(end) => Vec::from_slice(alloc, &records[..end + 1]),
         None => Vec::from_slice(alloc, records),
@@ -46,9 +37,7 @@ pub(crate) fn beginning_of(
     alloc: Global,
     path: &str,
     part: HeldLog<'_>,
-) -> Result<Option<Beginning>, AllocError>
-    ensures begins { IfOk result (BeginsAs part.gone (bytes_of part.records)) }
-{
+) -> Result<Option<Beginning>, AllocError> {
     let HeldLog { gone, records } = part;
     match gone {
         Some(told) => Ok(Some(Beginning {

@@ -1,6 +1,6 @@
 //! Why the log of a folder isn't verified, in words that name the file.
 
-use crate::beginning::Beginning;
+use crate::parts::Beginning;
 use folder_faults::Fault;
 use held_logs::HeldFault;
 use log_archives::JointFault;
@@ -10,7 +10,7 @@ use thiserror::Error;
 /// Why a part of a log is refused, or the log as the last one. A path is that of the part which the
 /// other one doesn't go with.
 #[derive(Debug, Drop, Error)]
-pub enum PartWhy {
+pub(crate) enum PartWhy {
     #[error("isn't there: what is in front of it can't be verified")]
     Missing,
     #[error("isn't a log of this site, or is a later program's")]
@@ -35,7 +35,7 @@ pub enum PartWhy {
 
 /// Why the log of a folder isn't verified.
 #[derive(Debug, Drop, Error)]
-pub enum VerifyFault {
+pub(crate) enum VerifyFault {
     /// The log itself is refused, a call of the system failed, or memory was wanting.
     #[error("{0}")]
     Log(Fault),
@@ -58,7 +58,7 @@ impl From<Fault> for VerifyFault {
 
 impl VerifyFault {
     /// The status with which the program ends.
-    pub fn status(&self) -> u8 {
+    pub(crate) fn status(&self) -> u8 {
         match self {
             VerifyFault::Log(fault) => fault.status(),
             VerifyFault::Part(..) => 3,
