@@ -1,12 +1,14 @@
 //! A log of which each part that it lets go of is kept.
 
-ghost use Rattle.std.specs.Prelude.{◌≡◌};
+ghost use Rattle.std.specs.Prelude.{◌≡◌, Some};
+ghost use Rattle.short_files.specs.Short.{safe_of};
 
 use crate::linked::folder_of;
 use crate::parts::part_path;
 use file_medium::{FileFailed, LogFile};
-use file_swap::PutFault;
+use file_swap::{PutFault, Replaceable};
 use log_head::Gone;
+use short_files::ShortFile;
 use short_log::ShortLog;
 use std::fs::{self, File};
 use std::io::{self, ErrorKind};
@@ -36,22 +38,20 @@ fn keep_part(rt: &HostRuntime, paths: &Paths, gone: u64) -> io::Result<()> {
 /// which isn't given back to the disk then, and two syncs. That the part is there is read, and not
 /// proved: no contract can see a folder.
 #[derive(Drop)]
-pub(crate) struct ArchivedLog<'a, L: ShortLog + Drop> {
+pub(crate) struct ArchivedLog<'a, F: LogFile> {
     rt: &'a HostRuntime,
     paths: &'a Paths,
-    log: L,
+    log: ShortFile<'a, F>,
     is_archived: bool,
 }
 
-impl<'a, L: ShortLog + Drop> ArchivedLog<'a, L> {
+impl<'a, F: LogFile> ArchivedLog<'a, F> {
     pub(crate) fn new(
         rt: &'a HostRuntime,
         paths: &'a Paths,
-        log: L,
+        log: ShortFile<'a, F>,
         is_archived: bool,
-    ) -> ArchivedLog<'a, L>
-        ensures log { result.log ≡ log }
-    {
+    ) -> ArchivedLog<'a, F> {
         ArchivedLog {
             rt,
             paths,
@@ -61,12 +61,12 @@ impl<'a, L: ShortLog + Drop> ArchivedLog<'a, L> {
     }
 }
 
-impl<'a, L: ShortLog + Drop> LogFile for ArchivedLog<'a, L> {
-    ghost bytes = { λ f. L.bytes f.log };
+impl<'a, F: LogFile> LogFile for ArchivedLog<'a, F> {
+    ghost bytes = { λ f. f.log.log.bytes };
 
-    ghost safe = { λ f. L.safe f.log };
+    ghost safe = { λ f. safe_of f.log };
 
-    ghost least = { λ f. L.least f.log };
+    ghost least = { λ f. Some f.log.log.opened };
 
     fn read_at(&mut self, at: u64, buffer: &mut [u8]) -> Result<usize, FileFailed> {
         self.log.read_at(at, buffer)
@@ -85,8 +85,8 @@ impl<'a, L: ShortLog + Drop> LogFile for ArchivedLog<'a, L> {
     }
 }
 
-impl<'a, L: ShortLog + Drop> ShortLog for ArchivedLog<'a, L> {
-    ghost gone = { λ f. L.gone f.log };
+impl<'a, F: Replaceable> ShortLog for ArchivedLog<'a, F> {
+    ghost gone = { λ f. f.log.gone };
 
     fn replace(&mut self, front: &Gone, held: &[u8]) -> Result<(), PutFault> {
         if self.is_archived && keep_part(self.rt, self.paths, front.bytes).is_err() {

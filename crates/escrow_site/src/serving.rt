@@ -12,13 +12,16 @@ use file_swap::{HostSwap, LogSyncs, Replaceable};
 use folder_faults::{Fault, Why, failed, refused};
 use folder_serving::{
     TellsSwap, check_age, gone_of, keep_streams, open_named, open_service, open_short,
-    refuse_plain, sealed_fault, serve_streams, short_fault, told_fault,
+    refuse_plain, serve_streams, short_fault, told_fault,
 };
+use log_head::Gone;
 use script_input::Watched;
 use short_files::{ShortFault, ShortFile};
+use short_log::ShortLog;
 use site_folder::{Identity, log_name};
 use site_service::NoTrace;
 use site_tasks::Serving;
+use std::alloc::Global;
 use world_folders::{Paths, TellsFault, read_site};
 
 // Opens the site over a log that is kept whole, and serves it over standard input and output.
@@ -36,23 +39,24 @@ fn serve_whole<F: LogFile + Drop, T: LogFile>(
     serve_streams(alloc, paths, &mut service, trace, &mut reader, &mut writer)
 }
 
-// Opens the site over its log of version 2 or 3, and serves it over standard input and output: the log
-// lets go of its front, where so many bytes are to stay.
-fn serve_behind<F: Replaceable + Drop, T: LogFile>(
+// Opens the site over a log of which this was let go, and serves it over standard input and output:
+// the log lets go of more, where so many bytes are to stay. (The error is of any type that a fault
+// becomes: with a fault itself, which has texts of the program, the borrow checker doesn't cover a call
+// for a log that borrows.)
+fn serve_behind<L: ShortLog + Drop, T: LogFile, E: From<Fault>>(
     rt: &HostRuntime,
     paths: &Paths,
     identity: &Identity,
-    log: &mut ShortFile<'_, F>,
+    gone: Option<Gone>,
+    log: L,
     trace: &mut T,
     how: Serving,
-) -> Result<(), Fault> {
+) -> Result<(), E> {
     let alloc = rt.alloc();
-    let gone = gone_of(alloc, log)?;
-    let kept = ArchivedLog::new(rt, paths, &mut *log, how.is_archived);
-    let mut service = open_service(alloc, paths, identity, gone, kept, trace)?;
+    let mut service = open_service(alloc, paths, identity, gone, log, trace)?;
     let mut reader = Watched::new(rt.stdin());
     let mut writer = Watched::new(rt.stdout());
-    match how.keep {
+    let served = match how.keep {
         Some(keep) => keep_streams(
             alloc,
             paths,
@@ -63,36 +67,53 @@ fn serve_behind<F: Replaceable + Drop, T: LogFile>(
             keep,
         ),
         None => serve_streams(alloc, paths, &mut service, trace, &mut reader, &mut writer),
-    }
+    };
+    Ok(served?)
 }
 
 // The same, and over its trace where it has one.
-fn serve_traced<F: Replaceable + Drop, T: TellsFault>(
+fn serve_traced<L: ShortLog + Drop, T: TellsFault, E: From<Fault>>(
     rt: &HostRuntime,
     paths: &Paths,
     identity: &Identity,
-    log: &mut ShortFile<'_, F>,
+    gone: Option<Gone>,
+    log: L,
     trace: &mut Option<T>,
     how: Serving,
-) -> Result<(), Fault> {
+) -> Result<(), E> {
     match trace {
-        Some(trace) => serve_behind(rt, paths, identity, log, trace, how),
-        None => serve_behind(rt, paths, identity, log, &mut NoTrace, how),
+        Some(trace) => serve_behind(rt, paths, identity, gone, log, trace, how),
+        None => serve_behind(rt, paths, identity, gone, log, &mut NoTrace, how),
     }
 }
 
-// The same, and tells why the serving ended.
+// Serves the site over its log of version 2 or 3. What it lets go of is kept beside it, where that is
+// asked for.
 fn serve_short<F: Replaceable + Drop, T: TellsFault>(
     rt: &HostRuntime,
     paths: &Paths,
     identity: &Identity,
-    log: &mut ShortFile<'_, F>,
+    log: ShortFile<'_, F>,
     trace: &mut Option<T>,
     how: Serving,
 ) -> Result<(), Fault> {
-    match serve_traced(rt, paths, identity, log, trace, how) {
-        Ok(()) => Ok(()),
-        Err(fault) => Err(sealed_fault(rt.alloc(), paths, fault, log.is_lost(), trace)),
+    let gone = gone_of(rt.alloc(), &log)?;
+    let kept = ArchivedLog::new(rt, paths, log, how.is_archived);
+    serve_traced(rt, paths, identity, gone, kept, trace, how)
+}
+
+// Why the serving over a log of closed batches ended: where no call of a file failed, memory was wanting
+// for a batch.
+fn batch_fault<F: TellsSwap, T: TellsFault>(
+    alloc: Global,
+    paths: &Paths,
+    fault: Fault,
+    file: &mut F,
+    trace: &mut Option<T>,
+) -> Fault {
+    match told_fault(alloc, paths, fault, file, trace) {
+        Fault::Device(_) => Fault::NoMemory,
+        fault => fault,
     }
 }
 
@@ -125,7 +146,10 @@ fn serve_lent<F: TellsSwap, T: TellsFault>(
     how: Serving,
 ) -> Result<(), Fault> {
     match open_short(rt.alloc(), identity, &mut *file) {
-        Ok(mut log) => serve_short(rt, paths, identity, &mut log, trace, how),
+        Ok(log) => match serve_short(rt, paths, identity, log, trace, how) {
+            Ok(()) => Ok(()),
+            Err(fault) => Err(batch_fault(rt.alloc(), paths, fault, file, trace)),
+        },
         Err(ShortFault::Plain) => serve_plain(rt, paths, identity, file, trace),
         Err(fault) => Err(short_fault(rt.alloc(), paths, identity, fault, file)),
     }
