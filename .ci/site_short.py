@@ -424,5 +424,5 @@ def refuse_older(program: Program, shop: Shop, olds: list[bytes]) -> None:
 
 SHORT = (
     tell_short_logs, sell_by_keys, settle_short_logs, refuse_heads, refuse_bases, damage_short_logs, refuse_keeps,
-    refuse_short_traces, remove_new, keep_as_much,
+    refuse_short_traces, remove_new, shorten_behind_links, keep_as_much,
 )  # fmt: skip
