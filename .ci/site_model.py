@@ -2,6 +2,7 @@
 with."""
 from __future__ import annotations
 
+import builtins
 import dataclasses
 import hashlib
 import itertools
@@ -100,7 +101,7 @@ class Gone:
     number: int
     open_then: tuple[int, ...] = ()
 
-    def told(self) -> bytes:
+    def told(self) -> builtins.bytes:
         words = "".join(f" {it}" for it in self.open_then)
         return f"head {self.bytes} {self.records}\nhorizon {self.epoch} {self.number}{words}\n".encode()
 
@@ -120,13 +121,13 @@ class Gone:
         return (self.epoch, self.number) > id_of(position)
 
     @staticmethod
-    def of(lines: bytes) -> Gone | None:
+    def of(lines: builtins.bytes) -> Gone | None:
         """What these two lines tell, or None where they tell nothing."""
         found = GONE_LINES.fullmatch(lines)
         if not found:
             return None
         numbers = [int(it) for it in found.groups()[:4]]
-        gone = Gone(*numbers, tuple(int(it) for it in found[5].split()))
+        gone = Gone(numbers[0], numbers[1], numbers[2], numbers[3], tuple(int(it) for it in found[5].split()))
         return gone if gone.is_in_range() else None
 
 
@@ -266,8 +267,8 @@ class Log:
                 totals = {"g": self.given, "a": self.accepted}[rest[0]]
                 totals[int(rest[1]), int(rest[2]), KINDS[rest[3]]] = int(rest[4])
                 rest = rest[5:]
-        totals = [*self.given.values(), *self.accepted.values()]
-        is_in_range = self.epoch <= MOST_NUMBERS and max(totals, default=0) <= MOST_TOTAL and self.summary() == line
+        all_totals = [*self.given.values(), *self.accepted.values()]
+        is_in_range = self.epoch <= MOST_NUMBERS and max(all_totals, default=0) <= MOST_TOTAL and self.summary() == line
         if letter != "S" or int(count) != len(fields) or not is_in_range or not all(map(self.is_balanced, fields)):
             raise NoLog("no records lead to its numbers")
 
@@ -344,8 +345,8 @@ class Log:
             others = [it for it in range(self.world.sites) if it != self.site]
             for at in ((site, field, kind) for site in others for field in fields for kind in (LOWER, RAISE)):
                 words += [f"{word} {at[0]} {at[1]} {letters[at[2]]} {totals[at]}"] if totals.get(at) else []
-        for at in ((field, kind) for field in fields for kind in (LOWER, RAISE)):
-            words += [f"t {at[0]} {letters[at[1]]} {self.cut[at]}"] if self.cut.get(at) else []
+        for place in ((field, kind) for field in fields for kind in (LOWER, RAISE)):
+            words += [f"t {place[0]} {letters[place[1]]} {self.cut[place]}"] if self.cut.get(place) else []
         return " ".join(words)
 
     def sum_up(self, words: list[str]) -> None:

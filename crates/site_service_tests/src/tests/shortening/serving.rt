@@ -57,7 +57,7 @@ fn push_commit(text: &mut String, number: u32) -> Result<(), AllocError> {
     text.push_str("\n0 commit 1.")?;
     push_number(text, number)?;
     let end = if number == COMMITS + 1 {
-        " key last\n"
+        " key last since 1.4000\n"
     } else {
         "\n"
     };
