@@ -43,7 +43,8 @@ class Children:
         with self.lock:
             self.running.discard(ran)
         if ran.poll() is None:
-            os.killpg(ran.pid, signal.SIGKILL)
+            with contextlib.suppress(ProcessLookupError):  # it has ended meanwhile
+                os.killpg(ran.pid, signal.SIGKILL)
             ran.wait()
 
     def end_all(self):

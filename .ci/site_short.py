@@ -342,6 +342,34 @@ def shorten_behind_links(program: Program) -> None:
             raise Fault(f"{site.folder}: {status}, {err!r}, {sorted(files_of(site.folder))}, {sorted(files_of(there))}, {site.log().gone}")
 
 
+def keep_parts(program: Program) -> None:
+    """With --archive what a log lets go of is kept: verify tells all that a log has that lets go of nothing. A part that was
+    changed, or isn't there, is named."""
+    site, whole = program.created("parts", ALONE), program.created("parts_whole", ALONE)
+    for epoch in (1, 2):
+        for words in (["serve", site.folder, "--keep", "0", "--archive"], ["serve", whole.folder]):
+            status, _, err = program.run(words, lines(*sales(epoch, 1, 3_000)))
+            if (status, err) != (0, ""):
+                raise Fault(f"{words}: {status}, {err!r}")
+    log = whole.log()
+    verified = f"verified {len([it for it in log.records if not it.startswith('S')])} {log.length}\n"
+    for it in (site, whole):
+        program.ends(["verify", it.folder], 0, verified, "")
+    parts = sorted(it for it in files_of(site.folder) if it.startswith("log."))
+    if len(parts) < 2:
+        raise Fault(f"{site.folder}: {parts}")
+    for name in parts:
+        path, held = f"{site.folder}/{name}", files_of(site.folder)[name]
+        program.put(f"parts/{name}", held[:-40] + bytes([held[-40] ^ 1]) + held[-39:])
+        status, out, err = program.run(["verify", site.folder])
+        if (status, out) != (3, "") or not err.startswith(f"escrow_site: {path}: line "):
+            raise Fault(f"{path}, changed: {status}, {out!r}, {err!r}")
+        os.remove(path)
+        program.ends(["verify", site.folder], 3, "", f"{path}: isn't there: what is in front of it can't be verified")
+        program.put(f"parts/{name}", held)
+    program.ends(["verify", site.folder], 0, verified, "")
+
+
 @dataclasses.dataclass
 class Due:
     """When a log is looked at, and where it is let go, by how many bytes are to stay."""
@@ -424,5 +452,5 @@ def refuse_older(program: Program, shop: Shop, olds: list[bytes]) -> None:
 
 SHORT = (
     tell_short_logs, sell_by_keys, settle_short_logs, refuse_heads, refuse_bases, damage_short_logs, refuse_keeps,
-    refuse_short_traces, remove_new, shorten_behind_links, keep_as_much,
+    refuse_short_traces, remove_new, shorten_behind_links, keep_parts, keep_as_much,
 )  # fmt: skip
