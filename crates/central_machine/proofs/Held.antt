@@ -13,7 +13,7 @@ use Rattle.field_bounds.proofs.Lawful.{IsLawful, same_txn-true}
 use Rattle.field_bounds.proofs.Lists.{reverse-cons, list_any-reverse}
 use Rattle.field_bounds.proofs.Opening.{any_open}
 use Rattle.field_bounds.proofs.Steps.{same_txn-sym, of_txn, granted-or, granted-same}
-use Rattle.central_machine.specs.declared.journal.OpenTransaction.{OpenTransaction}
+use Rattle.central_machine.specs.declared.journal.OpenRow.{OpenRow}
 use Rattle.central_machine.specs.Open.{txns_of, escrows_at, all_escrows}
 use Rattle.central_machine.specs.Rising.{is_among}
 use Rattle.central_machine.specs.Running.{sizes_taken}
@@ -63,7 +63,7 @@ module _ (f : ℕ) (k : Kind) (es : List Effect) where
   none_granted : granted_sizes (λ _. false) f k es ≡ 0
   none_granted = omega (arith, granted-or (λ _. false) (λ _. false) (λ id h. refl) f k es)
 
-  by_rows : (rows : List OpenTransaction) → AreApart (txns_of rows)
+  by_rows : (rows : List OpenRow) → AreApart (txns_of rows)
       → ((t : TxnId) → is_among t (txns_of rows) ≡ true → sizes_taken f k (escrows_at t rows) ≡ of_txn t f k es)
       → sizes_taken f k (all_escrows rows) ≡ granted_sizes (λ id. is_among id (txns_of rows)) f k es
   by_rows [] apart each = sym none_granted
@@ -91,7 +91,7 @@ module _ (f : ℕ) (k : Kind) (es : List Effect) where
             (λ id same. ap (λ (x : TxnId). is_among x (txns_of rs)) (sym (same_txn-true r.txn id same)) ∙ apart.0) f k es,
       )
 
-module _ (es : List Effect) (rows : List OpenTransaction) (are : AreOpen es rows) (schema : SchemaValue) (base : Base)
+module _ (es : List Effect) (rows : List OpenRow) (are : AreOpen es rows) (schema : SchemaValue) (base : Base)
     (lawful : IsLawful schema base es) where
   among_open : (t : TxnId) → is_among t (txns_of rows) ≡ (is_begun t es && is_open t es)
   among_open t =

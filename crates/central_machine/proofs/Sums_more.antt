@@ -17,7 +17,7 @@ use Rattle.field_bounds.proofs.Lawful.{IsLawful}
 use Rattle.field_bounds.proofs.Headline.{within_bounds}
 use Rattle.field_bounds.proofs.Traces.{sound_front}
 use Rattle.central_machine.specs.declared.field_sums.FieldSums.{FieldSums}
-use Rattle.central_machine.specs.Amounts.{amount, has_slot, capped_sum}
+use Rattle.central_machine.specs.FieldAmounts.{amount, has_slot, capped_sum}
 use Rattle.central_machine.specs.Sums.{AreSums}
 use Rattle.central_machine.proofs.Small.{all_narrow}
 use Rattle.central_machine.proofs.Moves.{committed_sizes, opened_by, closed_by, committed_by, given_up_by, held_moves, committed_moves, cut_moves, open_moves, held_in_open, cuts_more, committed_more}

@@ -6,10 +6,10 @@ use Rattle.field_bounds.specs.declared.kind.Kind.{Kind}
 use Rattle.field_bounds.specs.declared.entry.Escrow.{Escrow}
 use Rattle.field_bounds.specs.Kind.{same_kind, kind_of, other}
 use Rattle.field_bounds.specs.Effects.{takes}
-use Rattle.central_machine.specs.declared.amounts.Amounts.{Amounts}
-use Rattle.central_machine.specs.declared.journal.OpenTransaction.{OpenTransaction}
+use Rattle.central_machine.specs.declared.amounts.FieldAmounts.{FieldAmounts}
+use Rattle.central_machine.specs.declared.journal.OpenRow.{OpenRow}
 use Rattle.central_machine.specs.declared.field_sums.FieldSums.{FieldSums}
-use Rattle.central_machine.specs.Amounts.{amount, has_slot, IsPut, capped_sum}
+use Rattle.central_machine.specs.FieldAmounts.{amount, has_slot, IsPut, capped_sum}
 use Rattle.central_machine.specs.Running.{sizes_taken}
 use Rattle.central_machine.specs.Open.{all_escrows}
 use Rattle.central_machine.specs.Sums.{Grows, Shrinks, Closes}
@@ -18,7 +18,7 @@ use Rattle.central_machine.proofs.Ending.{turned_same, weigh_turned, less_less, 
 
 -- ---- what is put at a field's place
 
-module _ (f : ℕ) (n m : Amounts) (kind : Kind) (size : ℕ) where
+module _ (f : ℕ) (n m : FieldAmounts) (kind : Kind) (size : ℕ) where
   pub grown : IsPut n m f kind (capped_sum (amount n f kind + size)) → Grows n m f kind size
   grown put = record { more = λ g k slot. put.put g k slot ∙ here g k; places = put.places }
     where
@@ -52,7 +52,7 @@ capped_there a q true fits = refl
 capped_there a q false fits = omega (arith, fits)
 
 module _ (xs : List Escrow) (i : ℕ) (d : Escrow) (below : i < length xs) (f : ℕ) (k : Kind)
-    (first now then : Amounts) (slot : has_slot now f ≡ true) where
+    (first now then : FieldAmounts) (slot : has_slot now f ≡ true) where
   pub less_in : Shrinks now then (get_or xs i d).field.0 (kind_of (get_or xs i d).change) (unsigned_abs (get_or xs i d).change)
       → amount now f k ≡ amount first f k - sizes_taken f k (take i xs)
       → amount then f k ≡ amount first f k - sizes_taken f k (take (i + 1) xs)
@@ -78,7 +78,7 @@ module _ (xs : List Escrow) (i : ℕ) (d : Escrow) (below : i < length xs) (f : 
       ∙ ap (λ (n : ℕ). capped_sum (amount first f k + n)) (sym (one_more xs i d below f (other k)))
 
 -- the escrows of one row more aren't open any more
-pub closes_row : (n m o : FieldSums) (rows : List OpenTransaction) (i : ℕ) (d : OpenTransaction) → i < length rows
+pub closes_row : (n m o : FieldSums) (rows : List OpenRow) (i : ℕ) (d : OpenRow) → i < length rows
     → (xs : List Escrow) → xs ≡ (get_or rows i d).escrows.items → Closes n m (all_escrows (take i rows)) → Closes m o xs
     → Closes n o (all_escrows (take (i + 1) rows))
 closes_row n m o rows i d below xs is first then = record {

@@ -20,7 +20,7 @@ use Rattle.field_bounds.proofs.Runs.{run_is_lawful}
 use Rattle.field_bounds.proofs.Traces.{own_here, sound_front, sound_fits}
 use Rattle.central_machine.specs.declared.numbers.Numbers.{Numbers}
 use Rattle.central_machine.specs.declared.field_sums.FieldSums.{FieldSums}
-use Rattle.central_machine.specs.Amounts.{amount}
+use Rattle.central_machine.specs.FieldAmounts.{amount}
 use Rattle.central_machine.specs.Running.{Describes, effect_by, doubt, settled_effect}
 use Rattle.central_machine.specs.Open.{all_escrows}
 use Rattle.central_machine.specs.Sums.{AreSums, SettlesDoubt, Closes, SumsTake, SumsAfter}

@@ -14,9 +14,9 @@ use Rattle.field_bounds.specs.Effects.{Base, with_effect, held_rights}
 use Rattle.field_bounds.specs.Central.{IsSound}
 use Rattle.field_bounds.proofs.Lawful.{IsLawful}
 use Rattle.field_bounds.proofs.Headline.{within_bounds}
-use Rattle.central_machine.specs.declared.journal.OpenTransaction.{OpenTransaction}
+use Rattle.central_machine.specs.declared.journal.OpenRow.{OpenRow}
 use Rattle.central_machine.specs.declared.field_sums.FieldSums.{FieldSums}
-use Rattle.central_machine.specs.Amounts.{amount, has_slot, capped_sum}
+use Rattle.central_machine.specs.FieldAmounts.{amount, has_slot, capped_sum}
 use Rattle.central_machine.specs.Open.{all_escrows}
 use Rattle.central_machine.specs.Sums.{AreSums, SettlesDoubt, Closes, SumsTake}
 use Rattle.central_machine.proofs.Small.{all_narrow}
@@ -97,7 +97,7 @@ module _ (schema : SchemaValue) (good : IsSchema schema) (t : List Entry) (sound
     cut = λ f k l. no_cut (amount n.cut f k) (cut_fits f k l);
   }
 
-  module _ (base : Base) (es : List Effect) (rows : List OpenTransaction) (are : AreOpen es rows) where
+  module _ (base : Base) (es : List Effect) (rows : List OpenRow) (are : AreOpen es rows) where
     -- the sums move by what the effect moves
     pub moves_by : (d : Effect) (m : FieldSums) → d ≢ Stops → IsLawful schema base (d ∷ es) → SumsTake (Some d) rows n m
         → Moved schema n m (λ f k. opened_by f k d) (λ f k. closed_by f k es d)

@@ -12,7 +12,7 @@ use Rattle.central_rules.specs.Verdict.{broken_rule, first_broken, rules, verdic
 use Rattle.central_rules.proofs.Verdicts.{none_broken, stop_here}
 use Rattle.central_machine.specs.declared.part.Part.{Part}
 use Rattle.central_machine.specs.declared.part.Part.TheVariants.{Statements, OnTotals}
-use Rattle.central_machine.specs.declared.part.Fault.{Fault}
+use Rattle.central_machine.specs.declared.part.RuleFault.{RuleFault}
 use Rattle.central_machine.specs.Parts.{front_of, totals_tests, part_rule, IsBefore, IsFault, rank, is_before, earlier}
 use Rattle.central_machine.proofs.Found.{some_is, front_next}
 use Rattle.central_machine.proofs.Totals_more.{legal_next}
@@ -28,14 +28,14 @@ rank_small Told = omega arith
 rank_small Owed = omega arith
 
 -- a lesser number is an earlier fault
-abbrev key : Fault → ℕ
+abbrev key : RuleFault → ℕ
 key f = f.place * 6 + rank f.rule
 
 or_false : (x y : Bool) → (x || y) ≡ false → (x ≡ false) × (y ≡ false)
 or_false true y h = cc
 or_false false y h = (refl, h)
 
-less_key : (q p : Fault) → is_before q p ≡ true → key q < key p
+less_key : (q p : RuleFault) → is_before q p ≡ true → key q < key p
 less_key q p h =
     elim (or_cases (ltb q.place p.place) (eqb q.place p.place && ltb (rank q.rule) (rank p.rule)) h) [
       | inl less ↦ let l = ltb-true q.place p.place less in omega (arith, l, rank_small q.rule)
@@ -44,7 +44,7 @@ less_key q p h =
           omega (arith, eqb-true q.place p.place parts.0, ltb-true (rank q.rule) (rank p.rule) parts.1)
     ]
 
-most_key : (q p : Fault) → is_before q p ≡ false → key p ≤ key q
+most_key : (q p : RuleFault) → is_before q p ≡ false → key p ≤ key q
 most_key q p h =
     let parts = or_false (ltb q.place p.place) (eqb q.place p.place && ltb (rank q.rule) (rank p.rule)) h in
     let most = ltb-false q.place p.place parts.0 in
@@ -58,24 +58,24 @@ most_key q p h =
     ]
 
 -- a fault, if there is one, isn't later than another
-abbrev NoLater : Option Fault → Option Fault → Type 0
+abbrev NoLater : Option RuleFault → Option RuleFault → Type 0
 NoLater None None = Unit {0}
 NoLater (Some f) None = Unit {0}
 NoLater None (Some g) = ⊥
 NoLater (Some f) (Some g) = key f ≤ key g
 
-no_later : (a : Option Fault) → NoLater a a
+no_later : (a : Option RuleFault) → NoLater a a
 no_later None = tt
 no_later (Some f) = omega arith
 
-still_no_later : (a b c : Option Fault) → NoLater a b → NoLater b c → NoLater a c
+still_no_later : (a b c : Option RuleFault) → NoLater a b → NoLater b c → NoLater a c
 still_no_later None b None h k = tt
 still_no_later (Some e) b None h k = tt
 still_no_later a None (Some g) h k = absurd k
 still_no_later None (Some f) (Some g) h k = absurd h
 still_no_later (Some e) (Some f) (Some g) h k = omega (arith, h, k)
 
-earlier_leads : (a b : Option Fault) → NoLater (earlier a b) a × NoLater (earlier a b) b
+earlier_leads : (a b : Option RuleFault) → NoLater (earlier a b) a × NoLater (earlier a b) b
 earlier_leads None None = (tt, tt)
 earlier_leads None (Some q) = (tt, omega arith)
 earlier_leads (Some p) None = (omega arith, tt)
@@ -85,7 +85,7 @@ earlier_leads (Some p) (Some q) = at (is_before q p) refl
     at true e = (let less = less_key q p e in omega (arith, less), omega arith)
     at false e = (omega arith, most_key q p e)
 
-one_of : (a b : Option Fault) (f : Fault) → earlier a b ≡ Some f → (a ≡ Some f) ⊎ (b ≡ Some f)
+one_of : (a b : Option RuleFault) (f : RuleFault) → earlier a b ≡ Some f → (a ≡ Some f) ⊎ (b ≡ Some f)
 one_of None b f e = inr e
 one_of (Some p) None f e = inl e
 one_of (Some p) (Some q) f e = pick (is_before q p) e
@@ -94,7 +94,7 @@ one_of (Some p) (Some q) f e = pick (is_before q p) e
     pick true e = inr e
     pick false e = inl e
 
-before_too : (i : ℕ) (a b : Option Fault) → IsBefore i a → NoLater a b → IsBefore i b
+before_too : (i : ℕ) (a b : Option RuleFault) → IsBefore i a → NoLater a b → IsBefore i b
 before_too i None None h k = tt
 before_too i (Some f) None h k = tt
 before_too i None (Some g) h k = absurd k
@@ -192,7 +192,7 @@ module _ (schema : SchemaValue) (t : List Entry) (e : Entry) where
 
 -- ---- the verdict
 
-module _ (schema : SchemaValue) (entries : List Entry) (told tested : Option Fault) (of_statements : IsFault schema entries Statements told)
+module _ (schema : SchemaValue) (entries : List Entry) (told tested : Option RuleFault) (of_statements : IsFault schema entries Statements told)
     (of_totals : IsFault schema entries OnTotals tested) where
   -- an entry before both faults breaks no rule
   unbroken : (i : ℕ) (e : Entry) → slice_get entries i ≡ Some e → IsBefore i (earlier told tested)
@@ -203,7 +203,7 @@ module _ (schema : SchemaValue) (entries : List Entry) (told tested : Option Fau
       (clear OnTotals tested of_totals lead.1) r
       (let small = rank_small r in omega (arith, small)))
     where
-      clear : (part : Part) (y : Option Fault) → IsFault schema entries part y → NoLater (earlier told tested) y
+      clear : (part : Part) (y : Option RuleFault) → IsFault schema entries part y → NoLater (earlier told tested) y
           → Clear 6 (part_rule schema (front_of entries i) e part)
       clear part y is leads = subst (λ (o : Option Rule). Clear 6 o)
           (sym (is.passed i e at (before_too i (earlier told tested) y before leads) legal)) tt
@@ -225,16 +225,16 @@ module _ (schema : SchemaValue) (entries : List Entry) (told tested : Option Fau
   -- neither part finds a fault
   pub none_found : earlier told tested ≡ None → Legal ≡ verdict_of schema entries
   none_found none =
-      let legal = legal_before (length entries) (omega arith) (λ j less. subst (λ (f : Option Fault). IsBefore j f) (sym none) tt) in
+      let legal = legal_before (length entries) (omega arith) (λ j less. subst (λ (f : Option RuleFault). IsBefore j f) (sym none) tt) in
       sym legal ∙ ap (λ (xs : List Entry). verdict_back schema (reverse xs)) (take_all (length entries) entries (omega arith))
 
-  module _ (f : Fault) (first : earlier told tested ≡ Some f) where
+  module _ (f : RuleFault) (first : earlier told tested ≡ Some f) where
     -- a part that found it
     finder : (part : Part) × IsFault schema entries part (Some f)
     finder =
         elim (one_of told tested f first) [
-          | inl here ↦ (Statements, subst (λ (x : Option Fault). IsFault schema entries Statements x) here of_statements)
-          | inr here ↦ (OnTotals, subst (λ (x : Option Fault). IsFault schema entries OnTotals x) here of_totals)
+          | inl here ↦ (Statements, subst (λ (x : Option RuleFault). IsFault schema entries Statements x) here of_statements)
+          | inr here ↦ (OnTotals, subst (λ (x : Option RuleFault). IsFault schema entries OnTotals x) here of_totals)
         ]
 
     pub inside : f.place < length entries
@@ -242,11 +242,11 @@ module _ (schema : SchemaValue) (entries : List Entry) (told tested : Option Fau
 
     legal_there : verdict_back schema (front_of entries f.place) ≡ Legal
     legal_there = legal_before f.place (let l = inside in omega (arith, l))
-        (λ j less. subst (λ (x : Option Fault). IsBefore j x) (sym first) less)
+        (λ j less. subst (λ (x : Option RuleFault). IsBefore j x) (sym first) less)
 
     module _ (e : Entry) (at : slice_get entries f.place ≡ Some e) where
       -- no part tells an earlier rule here
-      clear_in : (part : Part) (y : Option Fault) → IsFault schema entries part y → NoLater (Some f) y
+      clear_in : (part : Part) (y : Option RuleFault) → IsFault schema entries part y → NoLater (Some f) y
           → Clear (rank f.rule) (part_rule schema (front_of entries f.place) e part)
       clear_in part None is h = subst (λ (o : Option Rule). Clear (rank f.rule) o) (sym (is.passed f.place e at tt legal_there)) tt
       clear_in part (Some g) is h =
@@ -261,9 +261,9 @@ module _ (schema : SchemaValue) (entries : List Entry) (told tested : Option Fau
                 (sym (is.passed f.place e at (omega (arith, h, apart, rank_small g.rule)) legal_there)) tt
           ]
 
-      clear : (part : Part) (y : Option Fault) → IsFault schema entries part y → NoLater (earlier told tested) y
+      clear : (part : Part) (y : Option RuleFault) → IsFault schema entries part y → NoLater (earlier told tested) y
           → Clear (rank f.rule) (part_rule schema (front_of entries f.place) e part)
-      clear part y is leads = clear_in part y is (subst (λ (x : Option Fault). NoLater x y) first leads)
+      clear part y is leads = clear_in part y is (subst (λ (x : Option RuleFault). NoLater x y) first leads)
 
       rule_is : broken_rule schema (front_of entries f.place) e ≡ Some f.rule
       rule_is =

@@ -5,7 +5,7 @@ use Rattle.field_bounds.specs.Schema.{SchemaValue}
 use Rattle.central_rules.specs.declared.verdict.Verdict.TheVariants.{Legal}
 use Rattle.central_rules.specs.Verdict.{verdict_of}
 use Rattle.central_machine.specs.declared.front_judge.FrontJudge.{FrontJudge}
-use Rattle.central_machine.specs.Totals.{AreRunning}
+use Rattle.central_machine.specs.FrontTotals.{AreRunning}
 
 -- The judge has taken in these entries, the oldest first: they are legal, it has counted them, and its totals are theirs.
 pub record HasJudged (schema : SchemaValue) (entries : List Entry) (judge : FrontJudge) : Type 0 where

@@ -1,10 +1,10 @@
-pub mod Amounts
+pub mod FieldAmounts
 pub mod Open
 pub mod Running
 pub mod Sums
-pub mod Totals
+pub mod FrontTotals
 pub mod Parts
 pub mod Rising
 pub mod Spread
-pub mod Ledger
+pub mod SparseTotals
 pub mod Front

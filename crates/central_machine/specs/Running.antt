@@ -16,8 +16,8 @@ use Rattle.field_bounds.specs.Effects.{Base, fresh, is_begun, is_open, open_txns
 use Rattle.field_bounds.specs.Owed.{Place, place, is_up, epoch_of, count_since, is_begun_reply, is_still_down, is_unsure}
 use Rattle.central_machine.specs.declared.numbers.Numbers.{Numbers}
 use Rattle.central_machine.specs.declared.site_totals.SiteTotals.{SiteTotals}
-use Rattle.central_machine.specs.Ledger.{told, has_spot, IsTold}
-use Rattle.central_machine.specs.Amounts.{amount, has_slot, IsPut, capped_sum}
+use Rattle.central_machine.specs.SparseTotals.{told, has_spot, IsTold}
+use Rattle.central_machine.specs.FieldAmounts.{amount, has_slot, IsPut, capped_sum}
 use Rattle.central_machine.specs.Open.{txns_of, escrows_at, all_escrows, IsOpened, IsAdded, IsClosed}
 
 -- ---- the numbers of one site

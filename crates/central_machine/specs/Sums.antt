@@ -13,21 +13,21 @@ use Rattle.field_bounds.specs.Schema.{SchemaValue}
 use Rattle.field_bounds.specs.Parts.{field_at}
 use Rattle.field_bounds.specs.Effects.{says_doubt_kept}
 use Rattle.field_bounds.specs.Central.{committed_value, open_sizes, cuts}
-use Rattle.central_machine.specs.declared.amounts.Amounts.{Amounts}
-use Rattle.central_machine.specs.declared.journal.OpenTransaction.{OpenTransaction}
+use Rattle.central_machine.specs.declared.amounts.FieldAmounts.{FieldAmounts}
+use Rattle.central_machine.specs.declared.journal.OpenRow.{OpenRow}
 use Rattle.central_machine.specs.declared.field_sums.FieldSums.{FieldSums}
-use Rattle.central_machine.specs.Amounts.{amount, has_slot, capped_sum}
+use Rattle.central_machine.specs.FieldAmounts.{amount, has_slot, capped_sum}
 use Rattle.central_machine.specs.Open.{escrows_at, all_escrows}
 use Rattle.central_machine.specs.Running.{sizes_taken, settled_effect}
 
 -- The amount of a field and kind grew, if it has a place, and no other.
-pub record Grows (n m : Amounts) (field : ℕ) (kind : Kind) (size : ℕ) : Type 0 where
+pub record Grows (n m : FieldAmounts) (field : ℕ) (kind : Kind) (size : ℕ) : Type 0 where
   pub more : (f : ℕ) (k : Kind) → has_slot n f ≡ true
       → amount m f k ≡ (if (field == f) && same_kind kind k then capped_sum (amount n f k + size) else amount n f k)
   pub places : (g : ℕ) → has_slot m g ≡ has_slot n g
 
 -- And so it fell.
-pub record Shrinks (n m : Amounts) (field : ℕ) (kind : Kind) (size : ℕ) : Type 0 where
+pub record Shrinks (n m : FieldAmounts) (field : ℕ) (kind : Kind) (size : ℕ) : Type 0 where
   pub less : (f : ℕ) (k : Kind) → has_slot n f ≡ true
       → amount m f k ≡ (if (field == f) && same_kind kind k then amount n f k - size else amount n f k)
   pub places : (g : ℕ) → has_slot m g ≡ has_slot n g
@@ -46,7 +46,7 @@ pub record Tightens (n m : FieldSums) (field : ℕ) (kind : Kind) (size : ℕ) :
   pub aside_same : m.aside ≡ n.aside
 
 -- What an effect that was in doubt and is kept does to the room and the cut.
-abbrev pub SettlesDoubt : Option Effect → List OpenTransaction → FieldSums → FieldSums → Type 0
+abbrev pub SettlesDoubt : Option Effect → List OpenRow → FieldSums → FieldSums → Type 0
 SettlesDoubt None rows n m = m ≡ n
 SettlesDoubt (Some (Begins txn)) rows n m = m ≡ n
 SettlesDoubt (Some (Grants txn field change)) rows n m = m ≡ n
@@ -80,7 +80,7 @@ pub record CommitsAndCloses (n m : FieldSums) (escrows : List EscrowOf) : Type 0
   pub closes : Closes mid m escrows
 
 -- The sums with one more effect.
-abbrev pub SumsTake : Option Effect → List OpenTransaction → FieldSums → FieldSums → Type 0
+abbrev pub SumsTake : Option Effect → List OpenRow → FieldSums → FieldSums → Type 0
 SumsTake None rows n m = m ≡ n
 SumsTake (Some (Begins txn)) rows n m = m ≡ n
 SumsTake (Some (Grants txn field change)) rows n m = SetAside n m field.0 change
@@ -92,7 +92,7 @@ SumsTake (Some (Accepts from field kind total)) rows n m = m ≡ n
 SumsTake (Some Stops) rows n m = m ≡ n
 
 -- The sums after one more reply, with this effect where it isn't in doubt.
-abbrev pub SumsAfter : Option Effect → Reply → Option Effect → List OpenTransaction → FieldSums → FieldSums → Type 0
+abbrev pub SumsAfter : Option Effect → Reply → Option Effect → List OpenRow → FieldSums → FieldSums → Type 0
 SumsAfter effect (Begun txn) d rows n m = SumsTake effect rows n m
 SumsAfter effect Granted d rows n m = SumsTake effect rows n m
 SumsAfter effect Committed d rows n m = SumsTake effect rows n m
@@ -111,7 +111,7 @@ SumsAfter effect StillDown d rows n m = SumsTake effect rows n m
 SumsAfter effect (Refused refusal) d rows n m = SumsTake effect rows n m
 
 -- The amounts of a field are how far its start value stands above the floor and below the ceiling.
-pub record IsRoom (schema : SchemaValue) (f : ℕ) (a : Amounts) : Type 0 where
+pub record IsRoom (schema : SchemaValue) (f : ℕ) (a : FieldAmounts) : Type 0 where
   pub slot : has_slot a f ≡ true
   pub low : (field_at schema f).floor +ℤ pos (amount a f Lower) ≡ (field_at schema f).value
   pub high : (field_at schema f).value +ℤ pos (amount a f Raise) ≡ (field_at schema f).ceiling

@@ -3,7 +3,7 @@
 ghost use Rattle.std.specs.Prelude.{◌≡◌, ◌<◌, ℕ, pos, ◌+ℤ◌, ◌≤ℤ◌, true, IfOk, length, slice_index_or};
 ghost use Rattle.field_bounds.specs.declared.kind.Kind.{Kind};
 ghost use Rattle.field_bounds.specs.Parts.{part_of};
-ghost use Rattle.central_machine.specs.Amounts.{amount, has_slot, IsPut};
+ghost use Rattle.central_machine.specs.FieldAmounts.{amount, has_slot, IsPut};
 ghost use Rattle.central_machine.specs.Sums.{IsRoom};
 
 use central_rules::bounds_of;
@@ -12,7 +12,7 @@ use std::alloc::{AllocError, Global};
 
 /// An amount of each kind at each place.
 #[derive(Drop)]
-pub struct Amounts {
+pub struct FieldAmounts {
     lower: Vec<u64>,
     raise: Vec<u64>,
 }
@@ -25,13 +25,13 @@ fn distance(low: i64, high: i64) -> u64
     high.abs_diff(low)
 }
 
-impl Amounts {
+impl FieldAmounts {
     /// So many places with nothing.
-    pub fn zeros(alloc: Global, n: usize) -> Result<Amounts, AllocError>
+    pub fn zeros(alloc: Global, n: usize) -> Result<FieldAmounts, AllocError>
         ensures { IfOk result (λ made. (g : ℕ) (k : Kind) → g < n →
             (has_slot made g ≡ true) × (amount made g k ≡ 0)) }
     {
-        Ok(Amounts {
+        Ok(FieldAmounts {
             lower: Vec::from_elem(alloc, 0u64, n)?,
             raise: Vec::from_elem(alloc, 0u64, n)?,
         })
@@ -56,19 +56,19 @@ impl Amounts {
         Ok(made)
     }
 
-    pub fn parts(alloc: Global, schema: &Schema, site: SiteNo) -> Result<Amounts, AllocError>
+    pub fn parts(alloc: Global, schema: &Schema, site: SiteNo) -> Result<FieldAmounts, AllocError>
         requires site_in { site.0 < schema.now.sites }
         ensures { IfOk result (λ made. (f : ℕ) (k : Kind) → f < length schema.now.fields →
             (has_slot made f ≡ true) × (amount made f k ≡ part_of schema.now site.0 f k)) }
     {
-        Ok(Amounts {
-            lower: Amounts::parts_of(alloc, schema, site, Kind::Lower)?,
-            raise: Amounts::parts_of(alloc, schema, site, Kind::Raise)?,
+        Ok(FieldAmounts {
+            lower: FieldAmounts::parts_of(alloc, schema, site, Kind::Lower)?,
+            raise: FieldAmounts::parts_of(alloc, schema, site, Kind::Raise)?,
         })
     }
 
     /// By how much the start value of each field may fall and rise within the schema's bounds.
-    pub fn rooms(alloc: Global, schema: &Schema) -> Result<Amounts, AllocError>
+    pub fn rooms(alloc: Global, schema: &Schema) -> Result<FieldAmounts, AllocError>
         ensures { IfOk result (λ made. (f : ℕ) → f < length schema.now.fields →
             IsRoom schema.now f made) }
     {
@@ -79,7 +79,7 @@ impl Amounts {
             lower.push(distance(bounds.floor, bounds.value))?;
             raise.push(distance(bounds.value, bounds.ceiling))?;
         }
-        Ok(Amounts { lower, raise })
+        Ok(FieldAmounts { lower, raise })
     }
 
     /// The amount at a place, 0 where there is none.

@@ -3,13 +3,13 @@
 ghost use Rattle.std.specs.Prelude.{◌≡◌, ℕ, ◌+◌, ◌-◌, ◌<◌, ◌≤◌, true, unsigned_abs, [], length, IfOk};
 ghost use Rattle.field_bounds.specs.declared.kind.Kind.{Kind};
 ghost use Rattle.field_bounds.specs.Kind.{kind_of, other};
-ghost use Rattle.central_machine.specs.Amounts.{amount, has_slot, IsPut, capped_sum};
+ghost use Rattle.central_machine.specs.FieldAmounts.{amount, has_slot, IsPut, capped_sum};
 ghost use Rattle.central_machine.specs.Open.{escrows_at, all_escrows};
 ghost use Rattle.central_machine.specs.Running.{sizes_taken};
 ghost use Rattle.central_machine.specs.Sums.{Grows, Shrinks, Moves, Tightens, SettlesDoubt, Closes, CommitsAndCloses, SetAside, SumsTake, SumsAfter, AreSums};
 
-use crate::amounts::Amounts;
-use crate::journal::{Journal, OpenTransaction};
+use crate::amounts::FieldAmounts;
+use crate::journal::{OpenRow, OpenSet};
 use crate::site_totals::settled;
 use field_bounds::{Effect, Escrow, FieldNo, Kind, Reply, Schema};
 use std::alloc::{AllocError, Global};
@@ -18,13 +18,13 @@ use std::alloc::{AllocError, Global};
 /// ceiling, the sizes of the open escrows, and what was given up for good.
 #[derive(Drop)]
 pub struct FieldSums {
-    pub room: Amounts,
-    pub aside: Amounts,
-    pub cut: Amounts,
+    pub room: FieldAmounts,
+    pub aside: FieldAmounts,
+    pub cut: FieldAmounts,
 }
 
 /// Adds to the amount of a field, if there is one.
-fn grow(amounts: &mut Amounts, field: FieldNo, kind: Kind, size: u64)
+fn grow(amounts: &mut FieldAmounts, field: FieldNo, kind: Kind, size: u64)
     ensures { Grows amounts.old amounts.new field.0 kind size }
 {
     let place = usize::from(field.0);
@@ -33,7 +33,7 @@ fn grow(amounts: &mut Amounts, field: FieldNo, kind: Kind, size: u64)
 }
 
 /// Takes from the amount of a field, if there is one.
-fn shrink(amounts: &mut Amounts, field: FieldNo, kind: Kind, size: u64)
+fn shrink(amounts: &mut FieldAmounts, field: FieldNo, kind: Kind, size: u64)
     ensures { Shrinks amounts.old amounts.new field.0 kind size }
 {
     let place = usize::from(field.0);
@@ -42,7 +42,7 @@ fn shrink(amounts: &mut Amounts, field: FieldNo, kind: Kind, size: u64)
 }
 
 /// Takes the size of an escrow, of its kind.
-fn take_one(amounts: &mut Amounts, escrow: Escrow)
+fn take_one(amounts: &mut FieldAmounts, escrow: Escrow)
     ensures { Shrinks amounts.old amounts.new escrow.field.0 (kind_of escrow.change)
         (unsigned_abs escrow.change) }
 {
@@ -51,7 +51,7 @@ fn take_one(amounts: &mut Amounts, escrow: Escrow)
 }
 
 /// Adds the size of an escrow, to the other kind.
-fn add_one(amounts: &mut Amounts, escrow: Escrow)
+fn add_one(amounts: &mut FieldAmounts, escrow: Escrow)
     ensures { Grows amounts.old amounts.new escrow.field.0 (other (kind_of escrow.change))
         (unsigned_abs escrow.change) }
 {
@@ -61,7 +61,7 @@ fn add_one(amounts: &mut Amounts, escrow: Escrow)
 }
 
 /// Takes the sizes of escrows, each of its kind.
-fn take_all(amounts: &mut Amounts, escrows: &[Escrow])
+fn take_all(amounts: &mut FieldAmounts, escrows: &[Escrow])
     ensures less { (f : ℕ) (k : Kind) → has_slot amounts.old f ≡ true →
         amount amounts.new f k ≡ amount amounts.old f k - sizes_taken f k escrows.now }
     ensures places { (g : ℕ) → has_slot amounts.new g ≡ has_slot amounts.old g }
@@ -72,7 +72,7 @@ fn take_all(amounts: &mut Amounts, escrows: &[Escrow])
 }
 
 /// Adds the sizes of escrows, each to the other kind.
-fn add_all(amounts: &mut Amounts, escrows: &[Escrow])
+fn add_all(amounts: &mut FieldAmounts, escrows: &[Escrow])
     ensures more { (f : ℕ) (k : Kind) → has_slot amounts.old f ≡ true →
         amount amounts.old f k ≤ 18446744073709551615 → amount amounts.new f k
         ≡ capped_sum (amount amounts.old f k + sizes_taken f (other k) escrows.now) }
@@ -90,9 +90,9 @@ impl FieldSums {
     {
         let fields = usize::from(schema.fields());
         Ok(FieldSums {
-            room: Amounts::rooms(alloc, schema)?,
-            aside: Amounts::zeros(alloc, fields)?,
-            cut: Amounts::zeros(alloc, fields)?,
+            room: FieldAmounts::rooms(alloc, schema)?,
+            aside: FieldAmounts::zeros(alloc, fields)?,
+            cut: FieldAmounts::zeros(alloc, fields)?,
         })
     }
 
@@ -136,7 +136,7 @@ impl FieldSums {
     }
 
     /// What was in doubt and is kept takes effect, but for the end of its escrows.
-    fn settle(&mut self, journal: &Journal, effect: Option<Effect>)
+    fn settle(&mut self, journal: &OpenSet, effect: Option<Effect>)
         ensures { SettlesDoubt effect journal.now.rows.items self.old self.new }
     {
         match effect {
@@ -156,7 +156,7 @@ impl FieldSums {
     /// Takes in one more effect, of a site where these transactions are open. The end of one costs
     /// a look through them, and a step for each of its escrows.
     #[inline(always)]
-    fn take(&mut self, journal: &Journal, effect: Option<Effect>)
+    fn take(&mut self, journal: &OpenSet, effect: Option<Effect>)
         ensures { SumsTake effect journal.now.rows.items self.old self.new }
     {
         match effect {
@@ -176,7 +176,7 @@ impl FieldSums {
     }
 
     /// The escrows of all rows aren't open any more.
-    fn close_all(&mut self, rows: &[OpenTransaction])
+    fn close_all(&mut self, rows: &[OpenRow])
         ensures { Closes self.old self.new (all_escrows rows.now) }
     {
         for row in rows {
@@ -189,7 +189,7 @@ impl FieldSums {
     #[inline(always)]
     pub fn after(
         &mut self,
-        journal: &Journal,
+        journal: &OpenSet,
         doubt: Option<Effect>,
         effect: Option<Effect>,
         reply: Reply,

@@ -7,10 +7,10 @@ ghost use Rattle.field_bounds.specs.Effects.{fresh, share};
 ghost use Rattle.field_bounds.specs.Central.{at_site, committed_value};
 ghost use Rattle.central_rules.specs.Verdict.{on_field, within_bound, true_share, test_of};
 ghost use Rattle.central_rules.specs.declared.verdict.Rule.TheVariants.{Grant, Shortage, Interval};
-ghost use Rattle.central_machine.specs.Amounts.{amount};
+ghost use Rattle.central_machine.specs.FieldAmounts.{amount};
 ghost use Rattle.central_machine.specs.Sums.{AreSums};
 
-use crate::amounts::Amounts;
+use crate::amounts::FieldAmounts;
 use crate::field_sums::FieldSums;
 use central_rules::{Bounds, bounds_of, has, lies_between};
 use field_bounds::{Command, Entry, FieldNo, Kind, Refusal, Reply, Schema};
@@ -30,7 +30,7 @@ fn at_floor(bounds: Bounds) -> Bounds
 /// that the schema lacks nothing is told.
 fn is_share(
     schema: &Schema,
-    free: &Amounts,
+    free: &FieldAmounts,
     field: FieldNo,
     kind: Kind,
     asked: u64,
@@ -49,7 +49,7 @@ fn is_share(
 /// Whether an entry keeps the rule on shortages: it names its site's share, which is less than was
 /// asked.
 #[inline(always)]
-pub fn shortage_holds(schema: &Schema, free: &Amounts, entry: &Entry) -> bool
+pub fn shortage_holds(schema: &Schema, free: &FieldAmounts, entry: &Entry) -> bool
     ensures { (t : List Entry) → ((f : ℕ) (k : Kind) → f < length schema.now.fields →
         amount free.now f k
         ≡ share (fresh schema.now entry.now.site.0) f k (at_site schema.now t entry.now.site.0)) →

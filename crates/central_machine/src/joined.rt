@@ -3,7 +3,7 @@
 ghost use Rattle.std.specs.Prelude.{◌≡◌};
 ghost use Rattle.central_machine.specs.Parts.{rank, is_before, earlier};
 
-use crate::part::Fault;
+use crate::part::RuleFault;
 use central_rules::Rule;
 
 /// The place of a rule in the order in which they are tested.
@@ -22,14 +22,14 @@ fn rank(rule: Rule) -> u8
 
 /// Whether a fault stands before another: at a lesser place, or at the same one with an earlier
 /// rule.
-fn is_before(a: Fault, b: Fault) -> bool
+fn is_before(a: RuleFault, b: RuleFault) -> bool
     ensures { result ≡ is_before a b }
 {
     a.place < b.place || a.place == b.place && rank(a.rule) < rank(b.rule)
 }
 
 /// The earlier of two faults.
-pub fn earlier(a: Option<Fault>, b: Option<Fault>) -> Option<Fault>
+pub fn earlier(a: Option<RuleFault>, b: Option<RuleFault>) -> Option<RuleFault>
     ensures { result ≡ earlier a b }
 {
     match (a, b) {

@@ -2,7 +2,7 @@
 
 ghost use Rattle.std.specs.Prelude.{◌≡◌, ◌<◌, ℕ, IfOk, OnOk, true};
 ghost use Rattle.field_bounds.specs.declared.kind.Kind.{Kind};
-ghost use Rattle.central_machine.specs.Ledger.{told, has_spot, IsTold};
+ghost use Rattle.central_machine.specs.SparseTotals.{told, has_spot, IsTold};
 
 use crate::spread::Spread;
 use field_bounds::Kind;
@@ -10,18 +10,18 @@ use std::alloc::{AllocError, Global};
 
 /// A total of each kind at each place.
 #[derive(Drop)]
-pub struct Ledger {
+pub struct SparseTotals {
     pub lower: Spread,
     pub raise: Spread,
 }
 
-impl Ledger {
+impl SparseTotals {
     /// So many places with 0. Takes memory for a number of each kind for each 16 of them.
-    pub fn zeros(alloc: Global, n: usize) -> Result<Ledger, AllocError>
+    pub fn zeros(alloc: Global, n: usize) -> Result<SparseTotals, AllocError>
         ensures { IfOk result (λ made. (g : ℕ) (k : Kind) → g < n →
             (has_spot made g ≡ true) × (told made g k ≡ 0)) }
     {
-        Ok(Ledger {
+        Ok(SparseTotals {
             lower: Spread::zeros(alloc, n)?,
             raise: Spread::zeros(alloc, n)?,
         })

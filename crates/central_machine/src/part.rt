@@ -12,7 +12,7 @@ pub enum Part {
 
 /// A bad entry, by its place, and a rule that it breaks.
 #[derive(Clone, Copy)]
-pub struct Fault {
+pub struct RuleFault {
     pub place: usize,
     pub rule: Rule,
 }

@@ -10,7 +10,7 @@ ghost use Rattle.central_machine.specs.Parts.{IsFault};
 
 use crate::joined::earlier;
 use crate::judging::length_of;
-use crate::part::Fault;
+use crate::part::RuleFault;
 use crate::statement_faults::statements_fault;
 use crate::threads::both;
 use crate::total_faults::totals_fault;
@@ -25,7 +25,7 @@ fn faults_of(
     alloc: Global,
     schema: &Schema,
     entries: &[Entry],
-) -> Result<(Option<Fault>, Option<Fault>), AllocError>
+) -> Result<(Option<RuleFault>, Option<RuleFault>), AllocError>
     ensures statements { IfOk result (λ faults.
         IsFault schema.now entries.now Statements faults.0) }
     ensures totals { IfOk result (λ faults. IsFault schema.now entries.now OnTotals faults.1) }
@@ -33,11 +33,11 @@ fn faults_of(
     let (of_statements, of_totals) = both(
         rt,
         entries.len(),
-        || -> Result<Option<Fault>, AllocError>
+        || -> Result<Option<RuleFault>, AllocError>
             ensures { IfOk result (λ fault. IsFault schema.entry.now entries.entry.now Statements
                 fault) }
         { statements_fault(alloc, schema, entries) },
-        || -> Result<Option<Fault>, AllocError>
+        || -> Result<Option<RuleFault>, AllocError>
             ensures { IfOk result (λ fault. IsFault schema.entry.now entries.entry.now OnTotals
                 fault) }
         { totals_fault(alloc, schema, entries) },

@@ -6,12 +6,12 @@ ghost use Rattle.field_bounds.specs.Schema.{SchemaValue};
 ghost use Rattle.central_rules.specs.declared.verdict.Verdict.TheVariants.{Legal};
 ghost use Rattle.central_rules.specs.declared.verdict.Rule.TheVariants.{Statement as Told};
 ghost use Rattle.central_rules.specs.Verdict.{broken_rule, first_broken, verdict_back, test_of};
-ghost use Rattle.central_machine.specs.Totals.{AreRunning};
+ghost use Rattle.central_machine.specs.FrontTotals.{AreRunning};
 ghost use Rattle.central_machine.specs.Parts.{field_tests};
 
 use crate::known::by_entry;
 use crate::statements;
-use crate::totals::Totals;
+use crate::totals::FrontTotals;
 use central_rules::Rule;
 use field_bounds::{Command, Entry, Reply, Schema};
 use statement_set::StatementSet;
@@ -20,7 +20,7 @@ use std::alloc::{AllocError, Global};
 /// The totals of a front: those of all sites, and the statements issued.
 #[derive(Drop)]
 pub struct Running {
-    pub totals: Totals,
+    pub totals: FrontTotals,
     pub issued: StatementSet,
 }
 
@@ -30,7 +30,7 @@ impl Running {
         ensures { IfOk result (λ made. AreRunning schema.now [] made) }
     {
         Ok(Running {
-            totals: Totals::new(alloc, schema)?,
+            totals: FrontTotals::new(alloc, schema)?,
             issued: StatementSet::new(alloc),
         })
     }

@@ -6,13 +6,13 @@ ghost use Rattle.field_bounds.specs.declared.entry.Command.TheVariants.{Spare};
 ghost use Rattle.field_bounds.specs.declared.entry.Entry.{Entry};
 ghost use Rattle.field_bounds.specs.Effects.{says_doubt_kept, Base};
 ghost use Rattle.field_bounds.specs.Owed.{is_up, epoch_of, count_since, is_begun_reply, is_still_down, is_unsure};
-ghost use Rattle.central_machine.specs.Amounts.{amount};
+ghost use Rattle.central_machine.specs.FieldAmounts.{amount};
 ghost use Rattle.central_machine.specs.Running.{NumbersAfter, effect_by, doubt_after, settled_effect, IsSite, PutsIn, GoesOn};
 
-use crate::amounts::Amounts;
-use crate::journal::Journal;
+use crate::amounts::FieldAmounts;
+use crate::journal::OpenSet;
 use crate::known::by_entry;
-use crate::ledger::Ledger;
+use crate::ledger::SparseTotals;
 use crate::numbers::Numbers;
 use central_rules::SiteCounts;
 use field_bounds::{
@@ -54,7 +54,7 @@ fn left(
 /// What a spare puts into effect at shares, by its reply.
 #[inline(always)]
 fn spare_by(
-    shares: &Amounts,
+    shares: &FieldAmounts,
     to: SiteNo,
     field: FieldNo,
     kind: Kind,
@@ -81,7 +81,7 @@ fn spare_by(
 
 /// What a command puts into effect at shares, by its reply.
 #[inline(always)]
-fn effect_by(shares: &Amounts, command: Command, reply: Reply) -> Option<Effect>
+fn effect_by(shares: &FieldAmounts, command: Command, reply: Reply) -> Option<Effect>
     ensures { result ≡ effect_by (amount shares.now) command reply }
 {
     let unsure = matches!(reply, Reply::Unsure);
@@ -175,17 +175,17 @@ impl SiteTotals {
     {
         let fields = schema.fields();
         let size = usize::from(schema.sites()) * usize::from(fields);
-        let free = Amounts::parts(alloc, schema, site)?;
-        let held = Amounts::zeros(alloc, usize::from(fields))?;
-        let cut = Amounts::zeros(alloc, usize::from(fields))?;
-        let given = Ledger::zeros(alloc, size)?;
-        let accepted = Ledger::zeros(alloc, size)?;
+        let free = FieldAmounts::parts(alloc, schema, site)?;
+        let held = FieldAmounts::zeros(alloc, usize::from(fields))?;
+        let cut = FieldAmounts::zeros(alloc, usize::from(fields))?;
+        let given = SparseTotals::zeros(alloc, size)?;
+        let accepted = SparseTotals::zeros(alloc, size)?;
         let numbers = Numbers {
             stride: fields,
             free,
             held,
             cut,
-            journal: Journal::new(alloc),
+            journal: OpenSet::new(alloc),
             given,
             accepted,
         };

@@ -6,7 +6,7 @@ ghost use Rattle.central_machine.specs.Parts.{IsFault, part_rule};
 ghost use Rattle.statement_set.specs.Issued.{HasIssued};
 ghost use Rattle.central_machine.specs.declared.part.Part.TheVariants.{Statements};
 
-use crate::part::Fault;
+use crate::part::RuleFault;
 use crate::statements;
 use central_rules::Rule;
 use field_bounds::{Entry, Schema};
@@ -33,13 +33,13 @@ pub fn statements_fault(
     alloc: Global,
     schema: &Schema,
     entries: &[Entry],
-) -> Result<Option<Fault>, AllocError>
+) -> Result<Option<RuleFault>, AllocError>
     ensures { IfOk result (λ fault. IsFault schema.now entries.now Statements fault) }
 {
     let mut issued = StatementSet::new(alloc);
     for (place, entry) in entries.iter().enumerate() {
         if let Some(rule) = statements_broken(&issued, schema, entry) {
-            return Ok(Some(Fault { place, rule }));
+            return Ok(Some(RuleFault { place, rule }));
         }
         statements::note(&mut issued, entry)?;
     }

@@ -9,7 +9,7 @@ ghost use Rattle.central_rules.specs.declared.verdict.Rule.TheVariants.{Reply as
 ghost use Rattle.central_rules.specs.Verdict.{broken_rule, verdict_back, test_of};
 ghost use Rattle.central_machine.specs.Parts.{field_broken, totals_broken};
 ghost use Rattle.central_machine.specs.Running.{IsSite};
-ghost use Rattle.central_machine.specs.Totals.{AreTotals};
+ghost use Rattle.central_machine.specs.FrontTotals.{AreTotals};
 ghost use Rattle.central_rules.specs.Replies.{reply_test};
 ghost use Rattle.field_bounds.specs.Owed.{place};
 
@@ -24,7 +24,7 @@ use std::alloc::{AllocError, Global};
 
 /// The totals of a front: the sums of the fields, and the totals of each site.
 #[derive(Drop)]
-pub struct Totals {
+pub struct FrontTotals {
     pub sums: FieldSums,
     pub sites: Vec<SiteTotals>,
 }
@@ -57,14 +57,14 @@ fn sites_of(alloc: Global, schema: &Schema) -> Result<Vec<SiteTotals>, AllocErro
     Ok(sites)
 }
 
-impl Totals {
+impl FrontTotals {
     /// The totals of no entries.
-    pub fn new(alloc: Global, schema: &Schema) -> Result<Totals, AllocError>
+    pub fn new(alloc: Global, schema: &Schema) -> Result<FrontTotals, AllocError>
         ensures { IfOk result (λ made. AreTotals schema.now [] made) }
     {
         let sums = FieldSums::new(alloc, schema)?;
         let sites = sites_of(alloc, schema)?;
-        Ok(Totals { sums, sites })
+        Ok(FrontTotals { sums, sites })
     }
 
     /// Whether the entry keeps the rule on replies: it is one that the site owes.

@@ -29,7 +29,7 @@ impl Meeting {
         }
     }
 
-    /// The first call at a site, 0 or 1, waits, as long as it takes to turn 100,000,000 times, until
+    /// The first call at a site, 0 or 1, waits, as long as it takes to turn 20,000,000,000 times, until
     /// the other site's first call is there too, and tells whether that came. A later call passes.
     pub fn meets(&self, site: SiteNo, call: u64) -> bool {
         if call != 1 {
@@ -41,6 +41,6 @@ impl Meeting {
             (&self.one, &self.zero)
         };
         own.store(1, Ordering::SeqCst);
-        comes(other, 100_000_000)
+        comes(other, 20_000_000_000)
     }
 }

@@ -158,7 +158,7 @@ const FIELDS_HELP: &str = "Judges in two threads; the answer is the same";
 
 /// What the command line asks for.
 #[derive(Clone, Copy)]
-enum Task {
+enum TextCall {
     Run,
     Work,
     Audit { fields: bool },
@@ -210,11 +210,11 @@ fn program<'a>(alloc: Global) -> Result<Command<'a>, AllocError> {
 }
 
 // The task that the words of a command line ask for.
-fn task_of(alloc: Global, matches: &ArgMatches<'_>) -> Result<Task, Error> {
+fn task_of(alloc: Global, matches: &ArgMatches<'_>) -> Result<TextCall, Error> {
     match matches.subcommand() {
-        Some(("run", _)) => Ok(Task::Run),
-        Some(("work", _)) => Ok(Task::Work),
-        Some(("audit", asked)) => Ok(Task::Audit {
+        Some(("run", _)) => Ok(TextCall::Run),
+        Some(("work", _)) => Ok(TextCall::Work),
+        Some(("audit", asked)) => Ok(TextCall::Audit {
             fields: asked.get_flag("fields"),
         }),
         _ => Err(program(alloc)?.error(ErrorKind::MissingSubcommand, "no subcommand")?),
@@ -236,7 +236,7 @@ fn read_words(
     }
 }
 
-fn read_task(rt: &(impl Env + AllocGlobal)) -> Result<Task, Error> {
+fn read_task(rt: &(impl Env + AllocGlobal)) -> Result<TextCall, Error> {
     let alloc = rt.alloc();
     let mut command = program(alloc)?;
     let words = read_words(rt, &mut command)?;
@@ -287,9 +287,9 @@ fn main(rt: HostRuntime) -> ExitCode {
     let mut reader = Watched::new(rt.stdin());
     let mut writer = Watched::new(rt.stdout());
     let ended = match task {
-        Task::Run => run_script(alloc, &mut reader, &mut writer).map(|()| 0),
-        Task::Work => work_text(&rt, alloc, &mut reader, &mut writer).map(|()| 0),
-        Task::Audit { fields } => {
+        TextCall::Run => run_script(alloc, &mut reader, &mut writer).map(|()| 0),
+        TextCall::Work => work_text(&rt, alloc, &mut reader, &mut writer).map(|()| 0),
+        TextCall::Audit { fields } => {
             audit_text(&rt, alloc, fields, &mut reader, &mut writer).map(status_of_end)
         }
     };

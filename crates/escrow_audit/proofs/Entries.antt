@@ -4,14 +4,14 @@ use Rattle.field_bounds.specs.Schema.{SchemaValue}
 use Rattle.field_bounds.specs.declared.entry.Entry.{Entry}
 use Rattle.entry_text.specs.Lines.{max_line}
 use Rattle.script_input.specs.declared.fault.ScriptFault.TheVariants.{NoMemory}
-use Rattle.script_input.specs.declared.streams.End.{End}
+use Rattle.script_input.specs.declared.streams.CallEnd.{CallEnd}
 use Rattle.script_input.specs.declared.reader.LineReader.{LineReader}
 use Rattle.script_input.specs.Faults.{HasEndedAt}
 use Rattle.script_input.specs.Reader.{Reads, ReadsNoFurther}
 use Rattle.script_input.proofs.NextLemmas.{HasNext, next_given, next_long, stops_no_memory}
 use Rattle.escrow_audit.specs.Audit.{AreEntries, HasEntries, IsBadEntry, FindsBad}
 use Rattle.escrow_audit.specs.Reading.{Notes, FindsIn, FaultsIn, WantsAt}
-use Rattle.escrow_audit.specs.declared.reading.Found.TheVariants.{BadEntry}
+use Rattle.escrow_audit.specs.declared.reading.ReadInput.TheVariants.{BadEntry}
 
 -- a line behind entries that begin with one
 notes_behind : (schema : SchemaValue) (line : List ℕ) (entry : Entry) (later old new : List Entry) → old ≡ entry ∷ later
@@ -48,7 +48,7 @@ HasEntries-more schema lines line old new has notes = record {
 
 -- ---- the first bad entry
 
-module _ {E : Type 0} (taken : SchemaValue → List Entry → E → Type 0) (from to : Option (List ℕ)) (last : End) (r : LineReader)
+module _ {E : Type 0} (taken : SchemaValue → List Entry → E → Type 0) (from to : Option (List ℕ)) (last : CallEnd) (r : LineReader)
     (schema : SchemaValue) (entries : List Entry) (given : List (List ℕ)) (has : HasEntries schema entries given) where
   bad_next : (line : List ℕ) (number : ℕ) → number ≡ length given + 1 → IsBadEntry schema line → HasNext from to last given line max_line
       → FindsIn taken from to last (BadEntry number)
@@ -88,7 +88,7 @@ module _ {E : Type 0} (taken : SchemaValue → List Entry → E → Type 0) (fro
 
 -- ---- want of memory
 
-pub faults_no_memory : (keeps : Bool) (from to : Option (List ℕ)) (last : End) → WantsAt keeps from to → FaultsIn from to last NoMemory
+pub faults_no_memory : (keeps : Bool) (from to : Option (List ℕ)) (last : CallEnd) → WantsAt keeps from to → FaultsIn from to last NoMemory
 faults_no_memory keeps from to last wants = (wants.given, (wants.good, stops_no_memory from to last wants.given wants.no_further))
 
 -- for the header

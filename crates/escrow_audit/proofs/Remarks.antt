@@ -12,12 +12,12 @@ use Rattle.line_words.proofs.Lines.{line_found, line_fits, line_only}
 use Rattle.entry_text.proofs.WordKinds.{site_read, kind_read, field_read}
 use Rattle.escrow_audit.specs.declared.remark.Reason.{Reason}
 use Rattle.escrow_audit.specs.declared.remark.Reason.TheVariants as reasons
-use Rattle.escrow_audit.specs.declared.remark.Outcome.{Outcome}
-use Rattle.escrow_audit.specs.declared.remark.Outcome.TheVariants as outcomes
+use Rattle.escrow_audit.specs.declared.remark.ReachEnd.{ReachEnd}
+use Rattle.escrow_audit.specs.declared.remark.ReachEnd.TheVariants as outcomes
 use Rattle.escrow_audit.specs.declared.remark.Remark.{Remark}
 use Rattle.escrow_audit.specs.declared.remark.Remark.TheVariants as remarks
-use Rattle.escrow_audit.specs.declared.remark.Opening.{Opening}
-use Rattle.escrow_audit.specs.declared.remark.Opening.TheVariants as openings
+use Rattle.escrow_audit.specs.declared.remark.RemarkWord.{RemarkWord}
+use Rattle.escrow_audit.specs.declared.remark.RemarkWord.TheVariants as openings
 use Rattle.escrow_audit.specs.declared.remark.Ending.{Ending}
 use Rattle.escrow_audit.specs.declared.remark.Ending.TheVariants as endings
 use Rattle.escrow_audit.specs.Remarks.{reason_text, outcome_words, remark_words, remark_text, OutcomeFits, RemarkFits, reason_table, reason_of, opening_table, opening_of, ending_table, ending_of, no_statement_at, level_at, outcome_after, outcome_at, reach_at, remark_after, remark_at, remark_of}
@@ -39,20 +39,20 @@ reason_read : IsRead (λ (r : Reason). Unit {0}) reason_text reason_of
 unfolding reason_of
 reason_read = table_read reason_text reason_table (refl, (refl, (refl, (refl, (refl, (refl, (refl, (refl, tt)))))))) refl reason_again
 
-abbrev opening_text : Opening → List ℕ
+abbrev opening_text : RemarkWord → List ℕ
 opening_text openings.Bad = codes "bad"
 opening_text openings.Deliver = codes "deliver"
 opening_text openings.Level = codes "level"
 opening_text openings.Reach = codes "reach"
 
-opening_again : (o : Opening) → opening_of (opening_text o) ≡ Some o
+opening_again : (o : RemarkWord) → opening_of (opening_text o) ≡ Some o
 unfolding opening_of
 opening_again openings.Bad = refl
 opening_again openings.Deliver = refl
 opening_again openings.Level = refl
 opening_again openings.Reach = refl
 
-opening_read : IsRead (λ (o : Opening). Unit {0}) opening_text opening_of
+opening_read : IsRead (λ (o : RemarkWord). Unit {0}) opening_text opening_of
 unfolding opening_of
 opening_read = table_read opening_text opening_table (refl, (refl, (refl, (refl, tt)))) refl opening_again
 
@@ -71,7 +71,7 @@ ending_read = table_read ending_text ending_table (refl, (refl, tt)) refl ending
 
 -- ---- outcomes
 
-outcome_rest : (ws : List (List ℕ)) (v : Outcome) (rest : List (List ℕ)) (ending : Ending) (r : List (List ℕ)) → ws ≡ ending_text ending ∷ r
+outcome_rest : (ws : List (List ℕ)) (v : ReachEnd) (rest : List (List ℕ)) (ending : Ending) (r : List (List ℕ)) → ws ≡ ending_text ending ∷ r
     → outcome_after ending r ≡ found v rest → OutcomeFits v × (ws ≡ outcome_words v ++ rest)
 unfolding outcome_after
 outcome_rest ws v rest endings.Steps r w e =
@@ -81,17 +81,17 @@ outcome_rest ws v rest endings.No r w e =
     taking reason_read _ r _ e (λ reason r1 f1 w1 e1.
     made_of OutcomeFits outcome_words ws (outcomes.Unreached reason) v r1 rest e1 tt (cc (w, w1)))
 
-outcome_takes : (ws : List (List ℕ)) (v : Outcome) (rest : List (List ℕ)) → outcome_at ws ≡ found v rest → OutcomeFits v
+outcome_takes : (ws : List (List ℕ)) (v : ReachEnd) (rest : List (List ℕ)) → outcome_at ws ≡ found v rest → OutcomeFits v
     × (ws ≡ outcome_words v ++ rest)
 unfolding outcome_at
 outcome_takes ws v rest e = taking ending_read _ ws _ e (λ ending r f w e1. outcome_rest ws v rest ending r w e1)
 
-outcome_again : (v : Outcome) (rest : List (List ℕ)) → OutcomeFits v → outcome_at (outcome_words v ++ rest) ≡ found v rest
+outcome_again : (v : ReachEnd) (rest : List (List ℕ)) → OutcomeFits v → outcome_at (outcome_words v ++ rest) ≡ found v rest
 unfolding outcome_at outcome_after
 outcome_again (outcomes.Steps steps) rest fits = word_again ending_read _ endings.Steps _ tt ∙ word_again number_read _ steps _ fits
 outcome_again (outcomes.Unreached reason) rest fits = word_again ending_read _ endings.No _ tt ∙ word_again reason_read _ reason _ tt
 
-outcome_plain : (v : Outcome) → OutcomeFits v → AllByRecursion IsWord (outcome_words v)
+outcome_plain : (v : ReachEnd) → OutcomeFits v → AllByRecursion IsWord (outcome_words v)
 outcome_plain (outcomes.Steps steps) fits = (word_from_test (codes "steps") refl, (number_read.plain steps fits, tt))
 outcome_plain (outcomes.Unreached reason) fits = (word_from_test (codes "no") refl, (reason_read.plain reason tt, tt))
 
@@ -104,7 +104,7 @@ made : {ws : List (List ℕ)} (schema : SchemaValue) (b v : Remark) (after rest 
     → ws ≡ remark_words schema b ++ after → RemarkFits v × (ws ≡ remark_words schema v ++ rest)
 made {ws} schema b v after rest e fits is = made_of RemarkFits (remark_words schema) ws b v after rest e fits is
 
-remark_rest : (schema : SchemaValue) → IsSchema schema → (o : Opening) (ws : List (List ℕ)) (v : Remark) (rest : List (List ℕ))
+remark_rest : (schema : SchemaValue) → IsSchema schema → (o : RemarkWord) (ws : List (List ℕ)) (v : Remark) (rest : List (List ℕ))
     → remark_after schema o ws ≡ found v rest → RemarkFits v × (opening_text o ∷ ws ≡ remark_words schema v ++ rest)
 unfolding remark_after no_statement_at level_at reach_at
 remark_rest schema is openings.Bad ws v rest e =

@@ -15,7 +15,7 @@ use Rattle.central_rules.specs.declared.verdict.Rule.TheVariants as rules
 use Rattle.central_rules.specs.Verdict.{verdict_of}
 use Rattle.script_input.specs.declared.fault.ScriptFault.{ScriptFault}
 use Rattle.script_input.specs.declared.fault.ScriptFault.TheVariants as faults
-use Rattle.script_input.specs.declared.streams.End.{End}
+use Rattle.script_input.specs.declared.streams.CallEnd.{CallEnd}
 use Rattle.script_input.specs.Lines.{whole_lines, script_lines}
 use Rattle.script_input.specs.Faults.{Explains, HasEndedAt, IsWithin, IsLineReached}
 use Rattle.script_input.specs.Streams.{AppendsPrefix}
@@ -122,7 +122,7 @@ IsWithinAt ends.Illegal read = IsWithin read
 IsWithinAt ends.BadEntry read = Unit {0}
 
 -- The answer to all that was read is written.
-pub record Audits (from to before after : Option (List ℕ)) (last : End) (end : AuditEnd) : Type 0 where
+pub record Audits (from to before after : Option (List ℕ)) (last : CallEnd) (end : AuditEnd) : Type 0 where
   pub read : List ℕ
   pub text : List ℕ
   pub consumed : Consumes from to read
@@ -151,7 +151,7 @@ LeavesFor faults.Illegal before after front back ended = IsGood (whole_lines fro
 LeavesFor faults.NoMemory before after front back ended = IsGood (whole_lines front) × Appends before after []
 
 -- What was read is the front and the back, where the fault came.
-pub record Fails (from to before after : Option (List ℕ)) (last : End) (fault : ScriptFault) : Type 0 where
+pub record Fails (from to before after : Option (List ℕ)) (last : CallEnd) (fault : ScriptFault) : Type 0 where
   pub front : List ℕ
   pub back : List ℕ
   pub consumed : Consumes from to (front ++ back)

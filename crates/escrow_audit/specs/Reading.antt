@@ -4,12 +4,12 @@ use Rattle.std.specs.Io.KnownBytes.{Consumes}
 use Rattle.field_bounds.specs.Schema.{SchemaValue}
 use Rattle.field_bounds.specs.declared.entry.Entry.{Entry}
 use Rattle.script_input.specs.declared.fault.ScriptFault.{ScriptFault}
-use Rattle.script_input.specs.declared.streams.End.{End}
+use Rattle.script_input.specs.declared.streams.CallEnd.{CallEnd}
 use Rattle.script_input.specs.Lines.{script_lines}
 use Rattle.script_input.specs.Faults.{HasEndedAt, IsWithin}
 use Rattle.script_input.specs.Reader.{StopsAt, ReadsNoFurther}
-use Rattle.escrow_audit.specs.declared.reading.Found.{Found}
-use Rattle.escrow_audit.specs.declared.reading.Found.TheVariants.{Entries, BadEntry}
+use Rattle.escrow_audit.specs.declared.reading.ReadInput.{ReadInput}
+use Rattle.escrow_audit.specs.declared.reading.ReadInput.TheVariants.{Entries, BadEntry}
 use Rattle.escrow_audit.specs.declared.answer.AuditEnd.{AuditEnd}
 use Rattle.escrow_audit.specs.Remarks.{IsRemark}
 use Rattle.escrow_audit.specs.Audit.{IsEntry, HasEntries, IsGood, FindsBad, IsAudit, IsWithinAt}
@@ -26,22 +26,22 @@ TakesIn has_taken schema line old new =
 
 -- What was found: at the end of an input within the limits all entries of its lines were taken in; or before it the first bad
 -- entry.
-abbrev pub IsFound : {E : Type 0} → (SchemaValue → List Entry → E → Type 0) → Found E → List ℕ → Type 0 → Type 0
+abbrev pub IsFound : {E : Type 0} → (SchemaValue → List Entry → E → Type 0) → ReadInput E → List ℕ → Type 0 → Type 0
 IsFound has_taken (Entries schema taken) read ended =
     ended × (IsWithin read × ((entries : List Entry) × (HasEntries schema entries (script_lines read) × has_taken schema entries taken)))
 IsFound has_taken (BadEntry number) read ended = FindsBad read number ended
 
 -- It was found in what was read.
-abbrev pub FindsIn : {E : Type 0} → (SchemaValue → List Entry → E → Type 0) → Option (List ℕ) → Option (List ℕ) → End → Found E → Type 0
+abbrev pub FindsIn : {E : Type 0} → (SchemaValue → List Entry → E → Type 0) → Option (List ℕ) → Option (List ℕ) → CallEnd → ReadInput E → Type 0
 FindsIn has_taken from to last found = (read : List ℕ) × (Consumes from to read × IsFound has_taken found read (HasEndedAt to last))
 
 -- What is answered of all that was read.
-abbrev pub Tells : Option (List ℕ) → Option (List ℕ) → End → AuditEnd → List ℕ → Type 0
+abbrev pub Tells : Option (List ℕ) → Option (List ℕ) → CallEnd → AuditEnd → List ℕ → Type 0
 Tells from to last end text =
     (read : List ℕ) × (Consumes from to read × (IsWithinAt end read × IsAudit end read (HasEndedAt to last) text))
 
 -- The fault came behind lines that have no bad entry.
-abbrev pub FaultsIn : Option (List ℕ) → Option (List ℕ) → End → ScriptFault → Type 0
+abbrev pub FaultsIn : Option (List ℕ) → Option (List ℕ) → CallEnd → ScriptFault → Type 0
 FaultsIn from to last fault = (given : List (List ℕ)) × (IsGood given × StopsAt from to last given fault)
 
 -- Want of memory came for a line of the last piece that was read, and the lines in front of that piece are good: for the
@@ -54,5 +54,5 @@ pub record WantsAt (keeps : Bool) (from to : Option (List ℕ)) : Type 0 where
 
 -- So it came, or what was read has its answer: the first bad entry, or the verdict at the end of an input within the limits
 -- whose lines are all good.
-abbrev pub WantsIn : Bool → Option (List ℕ) → Option (List ℕ) → End → Type 0
+abbrev pub WantsIn : Bool → Option (List ℕ) → Option (List ℕ) → CallEnd → Type 0
 WantsIn keeps from to last = WantsAt keeps from to ⊎ ((end : AuditEnd) × ((text : List ℕ) × Tells from to last end text))

@@ -11,12 +11,12 @@ use Rattle.entry_text.specs.Reading.{site_of, field_of, kind_of}
 use Rattle.entry_text.specs.Lines.{max_line}
 use Rattle.escrow_audit.specs.declared.remark.Reason.{Reason}
 use Rattle.escrow_audit.specs.declared.remark.Reason.TheVariants as reasons
-use Rattle.escrow_audit.specs.declared.remark.Outcome.{Outcome}
-use Rattle.escrow_audit.specs.declared.remark.Outcome.TheVariants as outcomes
+use Rattle.escrow_audit.specs.declared.remark.ReachEnd.{ReachEnd}
+use Rattle.escrow_audit.specs.declared.remark.ReachEnd.TheVariants as outcomes
 use Rattle.escrow_audit.specs.declared.remark.Remark.{Remark}
 use Rattle.escrow_audit.specs.declared.remark.Remark.TheVariants as remarks
-use Rattle.escrow_audit.specs.declared.remark.Opening.{Opening}
-use Rattle.escrow_audit.specs.declared.remark.Opening.TheVariants as openings
+use Rattle.escrow_audit.specs.declared.remark.RemarkWord.{RemarkWord}
+use Rattle.escrow_audit.specs.declared.remark.RemarkWord.TheVariants as openings
 use Rattle.escrow_audit.specs.declared.remark.Ending.{Ending}
 use Rattle.escrow_audit.specs.declared.remark.Ending.TheVariants as endings
 
@@ -34,7 +34,7 @@ reason_text reasons.Numbers = codes "numbers"
 reason_text reasons.Outside = codes "outside"
 
 -- The words of an outcome: how many steps reach the target, or why it isn't reached.
-abbrev pub outcome_words : Outcome → List (List ℕ)
+abbrev pub outcome_words : ReachEnd → List (List ℕ)
 outcome_words (outcomes.Steps steps) = codes "steps" ∷ decimal steps ∷ []
 outcome_words (outcomes.Unreached reason) = codes "no" ∷ reason_text reason ∷ []
 
@@ -54,7 +54,7 @@ abbrev pub remark_text : SchemaValue → Remark → List ℕ
 remark_text schema remark = line (remark_words schema remark)
 
 -- A count is a u64.
-abbrev pub OutcomeFits : Outcome → Type 0
+abbrev pub OutcomeFits : ReachEnd → Type 0
 OutcomeFits (outcomes.Steps steps) = steps < 2 ^ 64
 OutcomeFits (outcomes.Unreached reason) = Unit {0}
 
@@ -94,12 +94,12 @@ unfoldable pub reason_of : List ℕ → Option Reason
 reason_of w = beside reason_table w
 
 -- What remarks begin with.
-abbrev pub opening_table : List (List ℕ × Opening)
+abbrev pub opening_table : List (List ℕ × RemarkWord)
 opening_table = (codes "bad", openings.Bad) ∷ (codes "deliver", openings.Deliver) ∷ (codes "level", openings.Level)
     ∷ (codes "reach", openings.Reach) ∷ []
 
 -- What the word begins.
-unfoldable pub opening_of : List ℕ → Option Opening
+unfoldable pub opening_of : List ℕ → Option RemarkWord
 opening_of w = beside opening_table w
 
 -- What outcomes begin with.
@@ -132,7 +132,7 @@ level_at schema ws = do
   Some (remarks.Level field.0 kind.0 moves.0, moves.1)
 
 -- The outcome that a word begins, and the words after it.
-unfoldable pub outcome_after : Ending → List (List ℕ) → Option (Outcome × List (List ℕ))
+unfoldable pub outcome_after : Ending → List (List ℕ) → Option (ReachEnd × List (List ℕ))
 outcome_after endings.Steps ws = do
   steps ← word_at (number_of (2 ^ 64)) ws
   Some (outcomes.Steps steps.0, steps.1)
@@ -141,7 +141,7 @@ outcome_after endings.No ws = do
   Some (outcomes.Unreached reason.0, reason.1)
 
 -- The outcome of a list of words, and the words after it.
-unfoldable pub outcome_at : List (List ℕ) → Option (Outcome × List (List ℕ))
+unfoldable pub outcome_at : List (List ℕ) → Option (ReachEnd × List (List ℕ))
 outcome_at ws = do
   ending ← word_at ending_of ws
   outcome_after ending.0 ending.1
@@ -157,7 +157,7 @@ reach_at schema ws = do
   Some (remarks.Reach site.0 field.0 target.0 outcome.0, outcome.1)
 
 -- The remark that a word begins, and the words after it.
-unfoldable pub remark_after : SchemaValue → Opening → List (List ℕ) → Option (Remark × List (List ℕ))
+unfoldable pub remark_after : SchemaValue → RemarkWord → List (List ℕ) → Option (Remark × List (List ℕ))
 remark_after schema openings.Bad ws = do
   end ← word_at (only_of (codes "line")) ws
   Some (remarks.BadLine, end.1)

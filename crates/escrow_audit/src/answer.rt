@@ -12,7 +12,7 @@ ghost use Rattle.escrow_audit.specs.Judged.{AreJudged};
 ghost use Rattle.escrow_audit.specs.Reading.{Tells, FaultsIn, WantsIn};
 ghost use Rattle.escrow_audit.specs.Audit.{rule_text, verdict_text, end_of, bad_entry_text, Audits, Fails};
 
-use crate::reading::{Found, read_entries};
+use crate::reading::{ReadInput, read_entries};
 use crate::taking::JudgedEntries;
 use central_machine::judge_fields;
 use central_rules::{Rule, Verdict};
@@ -145,10 +145,10 @@ fn answer_by_fields<R: Source>(
         → WantsIn true (R.bytes reader.old) (R.bytes reader.new) (R.last reader.new)) }
 {
     match read_entries::<R, Vec<Entry>>(alloc, reader)? {
-        Found::Entries(schema, entries) => {
+        ReadInput::Entries(schema, entries) => {
             Ok(judge_kept(rt, alloc, &schema, entries.as_slice())?)
         }
-        Found::BadEntry(number) => Ok(bad_entry(alloc, number)?),
+        ReadInput::BadEntry(number) => Ok(bad_entry(alloc, number)?),
     }
 }
 
@@ -169,8 +169,8 @@ fn answer_in_one_pass<R: Source>(
         → WantsIn false (R.bytes reader.old) (R.bytes reader.new) (R.last reader.new)) }
 {
     match read_entries::<R, JudgedEntries>(alloc, reader)? {
-        Found::Entries(_, judged) => Ok(tell_judged(alloc, &judged)?),
-        Found::BadEntry(number) => Ok(bad_entry(alloc, number)?),
+        ReadInput::Entries(_, judged) => Ok(tell_judged(alloc, &judged)?),
+        ReadInput::BadEntry(number) => Ok(bad_entry(alloc, number)?),
     }
 }
 

@@ -10,4 +10,4 @@ mod taking;
 
 pub use answer::{AuditEnd, audit_text, rule_word, verdict_line};
 pub use laws::one_answer;
-pub use script_input::{CallFailed, End, ScriptFault, Sink, Source, Watched};
+pub use script_input::{CallEnd, CallFailed, ScriptFault, Sink, Source, Watched};

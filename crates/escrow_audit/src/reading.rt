@@ -16,7 +16,7 @@ use std::alloc::{AllocError, Global};
 /// What an input has: the schema of its header, and what has taken in the entries of its lines; or a
 /// line, counted from 1 with the header, that is neither an entry nor a remark.
 #[derive(Drop)]
-pub(crate) enum Found<E> {
+pub(crate) enum ReadInput<E> {
     Entries(Schema, E),
     BadEntry(u64),
 }
@@ -49,7 +49,7 @@ fn note<E: TakesEntries>(
 pub(crate) fn read_entries<R: Source, E: TakesEntries>(
     alloc: Global,
     reader: &mut R,
-) -> Result<Found<E>, ScriptFault>
+) -> Result<ReadInput<E>, ScriptFault>
     ensures ok { IfOk result (FindsIn E.has_taken (R.bytes reader.old) (R.bytes reader.new)
         (R.last reader.new)) }
     ensures fault { IfErr result (FaultsIn (R.bytes reader.old) (R.bytes reader.new)
@@ -73,12 +73,12 @@ pub(crate) fn read_entries<R: Source, E: TakesEntries>(
         match lines.next(reader, MAX_LINE)? {
             NextLine::Line => {
                 if !note(alloc, &mut taken, &schema, lines.line())? {
-                    return Ok(Found::BadEntry(u64::from(lines.lines())));
+                    return Ok(ReadInput::BadEntry(u64::from(lines.lines())));
                 }
             }
-            NextLine::Long => return Ok(Found::BadEntry(u64::from(lines.lines()) + 1)),
+            NextLine::Long => return Ok(ReadInput::BadEntry(u64::from(lines.lines()) + 1)),
             NextLine::Passed => unreachable!(),
-            NextLine::End => return Ok(Found::Entries(schema, taken)),
+            NextLine::End => return Ok(ReadInput::Entries(schema, taken)),
         }
     }
 }

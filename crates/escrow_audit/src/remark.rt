@@ -25,7 +25,7 @@ pub(crate) enum Reason {
 
 /// How reaching for a target ends: by so many steps, or by none, for a reason.
 #[derive(Clone, Copy, Debug)]
-pub(crate) enum Outcome {
+pub(crate) enum ReachEnd {
     Steps { steps: u64 },
     Unreached { reason: Reason },
 }
@@ -46,13 +46,13 @@ pub(crate) enum Remark {
         site: SiteNo,
         field: FieldNo,
         target: i64,
-        outcome: Outcome,
+        outcome: ReachEnd,
     },
 }
 
 /// The word that a remark begins with.
 #[derive(Clone, Copy, Debug)]
-pub(crate) enum Opening {
+pub(crate) enum RemarkWord {
     Bad,
     Deliver,
     Level,
@@ -98,17 +98,17 @@ fn reason_named(word: &[u8]) -> Option<Reason>
 }
 
 #[tactic(auto, unfolding(crate::specs::Remarks::opening_of))]
-fn opening_named(word: &[u8]) -> Option<Opening>
+fn opening_named(word: &[u8]) -> Option<RemarkWord>
     ensures { result ≡ opening_of word.now }
 {
     if is_text(word, "bad") {
-        Some(Opening::Bad)
+        Some(RemarkWord::Bad)
     } else if is_text(word, "deliver") {
-        Some(Opening::Deliver)
+        Some(RemarkWord::Deliver)
     } else if is_text(word, "level") {
-        Some(Opening::Level)
+        Some(RemarkWord::Level)
     } else if is_text(word, "reach") {
-        Some(Opening::Reach)
+        Some(RemarkWord::Reach)
     } else {
         None
     }
@@ -137,7 +137,7 @@ fn reason_at(line: &mut Words<'_>) -> Option<Reason>
 
 // Takes the word that a remark begins with.
 #[tactic(auto, unfolding(line_words::specs::Reading::word_at))]
-fn opening_at(line: &mut Words<'_>) -> Option<Opening>
+fn opening_at(line: &mut Words<'_>) -> Option<RemarkWord>
     ensures { Gives result line.new (word_at opening_of line.old) }
 {
     opening_named(line.next()?)
@@ -177,23 +177,23 @@ fn level(line: &mut Words<'_>, fields: &Fields<'_>) -> Option<Remark>
 }
 
 #[tactic(auto, unfolding(crate::specs::Remarks::outcome_after))]
-fn outcome_of(line: &mut Words<'_>, ending: Ending) -> Option<Outcome>
+fn outcome_of(line: &mut Words<'_>, ending: Ending) -> Option<ReachEnd>
     ensures { Gives result line.new (outcome_after ending line.old) }
 {
     match ending {
         Ending::Steps => {
             let steps = number_at(line)?;
-            Some(Outcome::Steps { steps })
+            Some(ReachEnd::Steps { steps })
         }
         Ending::No => {
             let reason = reason_at(line)?;
-            Some(Outcome::Unreached { reason })
+            Some(ReachEnd::Unreached { reason })
         }
     }
 }
 
 #[tactic(auto, unfolding(crate::specs::Remarks::outcome_at))]
-fn any_outcome(line: &mut Words<'_>) -> Option<Outcome>
+fn any_outcome(line: &mut Words<'_>) -> Option<ReachEnd>
     ensures { Gives result line.new (outcome_at line.old) }
 {
     let ending = ending_at(line)?;
@@ -218,17 +218,17 @@ fn reach(line: &mut Words<'_>, fields: &Fields<'_>) -> Option<Remark>
 }
 
 #[tactic(auto, unfolding(crate::specs::Remarks::remark_after))]
-fn rest_of(line: &mut Words<'_>, fields: &Fields<'_>, opening: Opening) -> Option<Remark>
+fn rest_of(line: &mut Words<'_>, fields: &Fields<'_>, opening: RemarkWord) -> Option<Remark>
     ensures { Gives result line.new (remark_after fields.now opening line.old) }
 {
     match opening {
-        Opening::Bad => {
+        RemarkWord::Bad => {
             expect(line, "line")?;
             Some(Remark::BadLine)
         }
-        Opening::Deliver => no_statement(line),
-        Opening::Level => level(line, fields),
-        Opening::Reach => reach(line, fields),
+        RemarkWord::Deliver => no_statement(line),
+        RemarkWord::Level => level(line, fields),
+        RemarkWord::Reach => reach(line, fields),
     }
 }
 

@@ -7,7 +7,7 @@ use Rattle.field_bounds.specs.Schema.{SchemaValue}
 use Rattle.entry_text.specs.Lines.{max_line}
 use Rattle.script_input.specs.declared.fault.ScriptFault.{ScriptFault}
 use Rattle.script_input.specs.declared.fault.ScriptFault.TheVariants.{Read, TooLong, Write, Header, BadLine, Work, Stuck, Illegal, NoMemory}
-use Rattle.script_input.specs.declared.streams.End.{End}
+use Rattle.script_input.specs.declared.streams.CallEnd.{CallEnd}
 use Rattle.script_input.specs.declared.reader.LineReader.{LineReader}
 use Rattle.script_input.specs.Lines.{whole_lines}
 use Rattle.script_input.specs.Faults.{HasEndedAt}
@@ -86,14 +86,14 @@ leaves before after world out left given stands same = (
 
 -- ---- a fault behind the lines that are answered
 
-pub stops_behind : (from to before after : Option (List ℕ)) (last : End) (world : WorldValue) (out left : List ℕ) (given : List (List ℕ))
+pub stops_behind : (from to before after : Option (List ℕ)) (last : CallEnd) (world : WorldValue) (out left : List ℕ) (given : List (List ℕ))
     (fault : ScriptFault) → fault ≢ Write → StopsAt from to last given fault → Stands before after world out given → left ≡ out
     → StopsAfter from to before after last left fault
 stops_behind from to before after last world out left given fault other stops stands same =
     inr (other, (given, (stops, leaves before after world out left given stands same)))
 
 -- want of memory for the answer to a line
-pub memory_at_line : (from to : Option (List ℕ)) (last : End) (r : LineReader) (given : List (List ℕ)) (most : ℕ)
+pub memory_at_line : (from to : Option (List ℕ)) (last : CallEnd) (r : LineReader) (given : List (List ℕ)) (most : ℕ)
     → GivesLine from to last given r most → StopsAt from to last given NoMemory
 memory_at_line from to last r given most line = record {
   front = line.front;
@@ -106,7 +106,7 @@ memory_at_line from to last r given most line = record {
 -- ---- a write that failed
 
 -- the lines that were given are whole, or they are all at the end of the input
-fails_behind : (from to before after : Option (List ℕ)) (last : End) (r : LineReader) (given : List (List ℕ)) → Reads from to last r given
+fails_behind : (from to before after : Option (List ℕ)) (last : CallEnd) (r : LineReader) (given : List (List ℕ)) → Reads from to last r given
     → LeavesPrefix before after given → Fails from to before after last Write
 fails_behind from to before after last r given reads front = record {
   front = reads.gone;
@@ -122,7 +122,7 @@ fails_behind from to before after last r given reads front = record {
   );
 }
 
-pub fails_write : (from to before middle after : Option (List ℕ)) (last : End) (r : LineReader) (world : WorldValue) (out : List ℕ)
+pub fails_write : (from to before middle after : Option (List ℕ)) (last : CallEnd) (r : LineReader) (world : WorldValue) (out : List ℕ)
     (given : List (List ℕ)) → Reads from to last r given → Stands before middle world out given → AppendsPrefix middle after out
     → Fails from to before after last Write
 fails_write from to before middle after last r world out given reads stands front =
@@ -134,7 +134,7 @@ fails_write from to before middle after last r world out given reads stands fron
 
 -- ---- the end of a run
 
-pub answers_all : (from to before middle after : Option (List ℕ)) (last : End) (s : Script) → RunsThrough from to before middle last s
+pub answers_all : (from to before middle after : Option (List ℕ)) (last : CallEnd) (s : Script) → RunsThrough from to before middle last s
     → Appends middle after s.out.items → Answers from to before after
 answers_all from to before middle after last s through appended =
     let (given, (all, stands)) = through in record {
@@ -151,7 +151,7 @@ answers_all from to before middle after last s through appended =
     }
 
 -- the last write failed after a run that was through
-pub fails_last : (from to before middle after : Option (List ℕ)) (last : End) (s : Script) → RunsThrough from to before middle last s
+pub fails_last : (from to before middle after : Option (List ℕ)) (last : CallEnd) (s : Script) → RunsThrough from to before middle last s
     → AppendsPrefix middle after s.out.items → Fails from to before after last Write
 fails_last from to before middle after last s through front =
     let (given, (all, stands)) = through in record {
@@ -185,7 +185,7 @@ writes_other Illegal front back before after other = λ h. h
 writes_other NoMemory front back before after other = λ h. h
 
 -- all of the text is written
-fails_at : (from to before after : Option (List ℕ)) (last : End) (fault : ScriptFault) (given : List (List ℕ)) → fault ≢ Write
+fails_at : (from to before after : Option (List ℕ)) (last : CallEnd) (fault : ScriptFault) (given : List (List ℕ)) → fault ≢ Write
     → StopsAt from to last given fault → LeavesAll before after given → Fails from to before after last fault
 fails_at from to before after last fault given other stops all = record {
   front = stops.front;
@@ -195,7 +195,7 @@ fails_at from to before after last fault given other stops all = record {
   written = writes_other fault stops.front stops.back before after other (subst (LeavesAll before after) (sym stops.whole) all);
 }
 
-module _ (from to before middle after : Option (List ℕ)) (last : End) (out : List ℕ) (fault : ScriptFault) (other : fault ≢ Write)
+module _ (from to before middle after : Option (List ℕ)) (last : CallEnd) (out : List ℕ) (fault : ScriptFault) (other : fault ≢ Write)
     (stops : StopsAfter from to before middle last out fault) where
   -- what is written, with the buffer, is the text of the lines in front of the fault
   text_left : (given : List (List ℕ)) × (StopsAt from to last given fault × Leaves before middle out given)
@@ -227,7 +227,7 @@ module _ (from to before middle after : Option (List ℕ)) (last : End) (out : L
       }
 
 -- the write failed already
-pub fails_written : (from to before after : Option (List ℕ)) (last : End) (out : List ℕ) (fault : ScriptFault) → fault ≡ Write
+pub fails_written : (from to before after : Option (List ℕ)) (last : CallEnd) (out : List ℕ) (fault : ScriptFault) → fault ≡ Write
     → StopsAfter from to before after last out fault → Fails from to before after last fault
 fails_written from to before after last out fault is stops = elim stops [
   | inl write ↦ subst (Fails from to before after last) (sym write.0) write.1

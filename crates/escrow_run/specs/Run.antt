@@ -5,7 +5,7 @@ use Rattle.field_bounds.specs.Schema.{SchemaValue}
 use Rattle.escrow_run.specs.declared.script.Script.{Script}
 use Rattle.script_input.specs.declared.fault.ScriptFault.{ScriptFault}
 use Rattle.script_input.specs.declared.fault.ScriptFault.TheVariants.{Read, TooLong, Write, Header, BadLine, Work, Stuck, Illegal, NoMemory}
-use Rattle.script_input.specs.declared.streams.End.{End}
+use Rattle.script_input.specs.declared.streams.CallEnd.{CallEnd}
 use Rattle.entry_text.specs.Lines.{max_line}
 use Rattle.escrow_run.specs.Text.{AreReplies, IsAnswer, HasText, IsTextOf}
 use Rattle.world_steps.specs.declared.step.WorldStep.{WorldStep}
@@ -67,19 +67,19 @@ pub record Stands (before after : Option (List ℕ)) (world : WorldValue) (out :
   pub text : HasText world.schema (reverse world.steps) lines (written ++ out)
 
 -- The lines that were given of what was read are answered. Of a line that is too long so much was passed over as tells that.
-pub record Runs (from to before after : Option (List ℕ)) (last : End) (s : Script) : Type 0 where
+pub record Runs (from to before after : Option (List ℕ)) (last : CallEnd) (s : Script) : Type 0 where
   pub given : List (List ℕ)
   pub reads : Reads from to last s.lines given
   pub stands : Stands before after s.machine.world s.out.items given
   pub long : (passed_over s.lines ≡ 0) ⊎ (max_line < passed_over s.lines)
 
 -- All of the input is read, it is within the limits, and what is written, with the buffer, is its text.
-abbrev pub RunsThrough : Option (List ℕ) → Option (List ℕ) → Option (List ℕ) → Option (List ℕ) → End → Script → Type 0
+abbrev pub RunsThrough : Option (List ℕ) → Option (List ℕ) → Option (List ℕ) → Option (List ℕ) → CallEnd → Script → Type 0
 RunsThrough from to before after last s = (given : List (List ℕ)) × (GaveAll from to last given
     × Stands before after s.machine.world s.out.items given)
 
 -- There may be more, or the run is through.
-abbrev pub RunsOn : Option (List ℕ) → Option (List ℕ) → Option (List ℕ) → Option (List ℕ) → End → Script → Bool → Type 0
+abbrev pub RunsOn : Option (List ℕ) → Option (List ℕ) → Option (List ℕ) → Option (List ℕ) → CallEnd → Script → Bool → Type 0
 RunsOn from to before after last s true = Runs from to before after last s
 RunsOn from to before after last s false = RunsThrough from to before after last s
 
@@ -111,7 +111,7 @@ WritesFor Illegal before after front back = LeavesAll before after (whole_lines 
 WritesFor NoMemory before after front back = LeavesAll before after (whole_lines front)
 
 -- What was read is the front, with the whole lines that are answered, and the back, where the fault came.
-pub record Fails (from to before after : Option (List ℕ)) (last : End) (fault : ScriptFault) : Type 0 where
+pub record Fails (from to before after : Option (List ℕ)) (last : CallEnd) (fault : ScriptFault) : Type 0 where
   pub front : List ℕ
   pub back : List ℕ
   pub consumed : Consumes from to (front ++ back)
@@ -119,6 +119,6 @@ pub record Fails (from to before after : Option (List ℕ)) (last : End) (fault 
   pub written : WritesFor fault before after front back
 
 -- Either a write failed, or all of the text of the lines in front of the fault is written but for what is in the buffer.
-abbrev pub StopsAfter : Option (List ℕ) → Option (List ℕ) → Option (List ℕ) → Option (List ℕ) → End → List ℕ → ScriptFault → Type 0
+abbrev pub StopsAfter : Option (List ℕ) → Option (List ℕ) → Option (List ℕ) → Option (List ℕ) → CallEnd → List ℕ → ScriptFault → Type 0
 StopsAfter from to before after last out fault = ((fault ≡ Write) × Fails from to before after last Write)
     ⊎ ((fault ≢ Write) × ((given : List (List ℕ)) × (StopsAt from to last given fault × Leaves before after out given)))

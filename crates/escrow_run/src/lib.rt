@@ -11,4 +11,4 @@ mod script;
 
 pub use laws::one_text;
 pub use script::run_script;
-pub use script_input::{CallFailed, End, ScriptFault, Sink, Source, Watched};
+pub use script_input::{CallEnd, CallFailed, ScriptFault, Sink, Source, Watched};

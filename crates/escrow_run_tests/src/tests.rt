@@ -15,7 +15,7 @@ mod reaches;
 mod worked;
 
 use check_kit::{STOCK_OF_TWO, add, joined};
-use escrow_run::{End, ScriptFault, Watched, run_script};
+use escrow_run::{CallEnd, ScriptFault, Watched, run_script};
 use field_bounds::SchemaFault;
 use itoa::Buffer;
 use std::alloc::{AllocError, Global};
@@ -478,7 +478,7 @@ fn ends_where_a_read_fails(rt: HostRuntime) {
 fn run_narrow(rt: &impl Abort, alloc: Global, text: &[u8], room: usize) -> (Ended, Vec<u8>) {
     let mut writer = Watched::new(Narrow::new(alloc, room));
     let end = run_script(alloc, &mut Watched::new(text), &mut writer);
-    assert!(rt; writer.last() != End::NotCalled);
+    assert!(rt; writer.last() != CallEnd::NotCalled);
     (end, writer.into_inner().into_taken())
 }
 

@@ -7,7 +7,7 @@ use Rattle.entry_text.specs.Lines.{max_line}
 use Rattle.site_workers.specs.Scripts.{scripts_of}
 use Rattle.script_input.specs.declared.fault.ScriptFault.{ScriptFault}
 use Rattle.script_input.specs.declared.fault.ScriptFault.TheVariants as faults
-use Rattle.script_input.specs.declared.streams.End.{End}
+use Rattle.script_input.specs.declared.streams.CallEnd.{CallEnd}
 use Rattle.script_input.specs.declared.reader.LineReader.{LineReader}
 use Rattle.script_input.specs.Faults.{Explains, HasEndedAt}
 use Rattle.script_input.specs.Reader.{Reads, ReadsNoFurther, StopsAt}
@@ -47,7 +47,7 @@ has_more schema header old lines line site command has plain = record {
 -- ---- where the reading stops
 
 -- a fault behind good lines
-pub stops_good : (from to : Option (List ℕ)) (last : End) (given : List (List ℕ)) (fault : ScriptFault) → IsGood given → fault ≢ faults.Write
+pub stops_good : (from to : Option (List ℕ)) (last : CallEnd) (given : List (List ℕ)) (fault : ScriptFault) → IsGood given → fault ≢ faults.Write
     → StopsAt from to last given fault → FaultsIn from to last fault
 stops_good from to last given fault good other stops = (stops.front ++ stops.back, (stops.consumed, told fault other stops.why))
   where
@@ -75,7 +75,7 @@ stops_good from to last given fault good other stops = (stops.front ++ stops.bac
     told faults.NoMemory other why = in_front faults.NoMemory other why
 
 -- want of memory
-pub stops_memory : (from to : Option (List ℕ)) (last : End) → WantsAt from to → FaultsIn from to last faults.NoMemory
+pub stops_memory : (from to : Option (List ℕ)) (last : CallEnd) → WantsAt from to → FaultsIn from to last faults.NoMemory
 stops_memory from to last wants =
     stops_good from to last wants.given faults.NoMemory wants.good (λ h. cc) (stops_no_memory from to last wants.given wants.no_further)
 
@@ -93,7 +93,7 @@ wants_on from was to scripts given holds wants (inr reads) = record {
   no_further = reads;
 }
 
-module _ (from to : Option (List ℕ)) (last : End) (r : LineReader) (scripts : Scripts) (given : List (List ℕ))
+module _ (from to : Option (List ℕ)) (last : CallEnd) (r : LineReader) (scripts : Scripts) (given : List (List ℕ))
     (holds : Holds scripts given) where
   bad_next : (line : List ℕ) (number : ℕ) → number ≡ length given + 1 → IsBadLine scripts.schema line → HasNext from to last given line max_line
       → FaultsIn from to last (faults.BadLine number)

@@ -7,7 +7,7 @@ use Rattle.field_bounds.specs.declared.entry.Entry.{Entry}
 use Rattle.entry_text.specs.Spelling.{entry_text}
 use Rattle.script_input.specs.declared.fault.ScriptFault.{ScriptFault}
 use Rattle.script_input.specs.declared.fault.ScriptFault.TheVariants as faults
-use Rattle.script_input.specs.declared.streams.End.{End}
+use Rattle.script_input.specs.declared.streams.CallEnd.{CallEnd}
 use Rattle.script_input.specs.Lines.{script_lines}
 use Rattle.script_input.specs.Faults.{HasEndedAt}
 use Rattle.site_workers.specs.Scripts.{scripts_of, ScriptsFit}
@@ -41,14 +41,14 @@ text_more schema header es i d out mid next below so_far line ended =
 
 -- ---- what is made
 
-pub fit_through : (from to : Option (List ℕ)) (last : End) (w : Scripts) → ReadsThrough from to last w
+pub fit_through : (from to : Option (List ℕ)) (last : CallEnd) (w : Scripts) → ReadsThrough from to last w
     → ScriptsFit w.schema (scripts_of w.rows.items)
 fit_through from to last w through =
     let holds : Holds w (script_lines through.0) = through.1.1.1.1 in
     subst (λ (l : List (List Command)). ScriptsFit w.schema l) (sym holds.dealt)
     (dealt_fit w.schema holds.behind holds.asked holds.each)
 
-pub faults_through : (from to : Option (List ℕ)) (last : End) (w : Scripts) (fault : ScriptFault) → ReadsThrough from to last w
+pub faults_through : (from to : Option (List ℕ)) (last : CallEnd) (w : Scripts) (fault : ScriptFault) → ReadsThrough from to last w
     → WantsAt from to → MakesNone w.schema (scripts_of w.rows.items) fault → FaultsIn from to last fault
 faults_through from to last w fault through wants none = told fault none
   where

@@ -1,7 +1,7 @@
 -- The scripts of what was read (this project).
 use Rattle.std.specs.Prelude.{ℕ, List, Option}
 use Rattle.std.specs.Io.KnownBytes.{Consumes}
-use Rattle.script_input.specs.declared.streams.End.{End}
+use Rattle.script_input.specs.declared.streams.CallEnd.{CallEnd}
 use Rattle.script_input.specs.Lines.{script_lines}
 use Rattle.script_input.specs.Faults.{HasEndedAt, IsWithin}
 use Rattle.script_input.specs.Reader.{ReadsNoFurther}
@@ -15,7 +15,7 @@ abbrev pub Holds : Scripts → List (List ℕ) → Type 0
 Holds scripts lines = HasScripts scripts.schema scripts.header.items (scripts_of scripts.rows.items) lines
 
 -- All of the input was read, it is within the limits, and the scripts are those of its lines.
-abbrev pub ReadsThrough : Option (List ℕ) → Option (List ℕ) → End → Scripts → Type 0
+abbrev pub ReadsThrough : Option (List ℕ) → Option (List ℕ) → CallEnd → Scripts → Type 0
 ReadsThrough from to last scripts =
     (read : List ℕ) × (Consumes from to read × (HasEndedAt to last × (IsWithin read × Holds scripts (script_lines read))))
 

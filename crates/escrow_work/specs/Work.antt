@@ -18,7 +18,7 @@ use Rattle.site_workers.specs.Jobs.{TellsFirst}
 use Rattle.trace_weave.specs.Weave.{WeavesLowest, NoneWeaves}
 use Rattle.script_input.specs.declared.fault.ScriptFault.{ScriptFault}
 use Rattle.script_input.specs.declared.fault.ScriptFault.TheVariants as faults
-use Rattle.script_input.specs.declared.streams.End.{End}
+use Rattle.script_input.specs.declared.streams.CallEnd.{CallEnd}
 use Rattle.script_input.specs.Lines.{whole_lines, script_lines}
 use Rattle.script_input.specs.Faults.{Explains, HasEndedAt, IsWithin, IsLineReached}
 use Rattle.script_input.specs.Streams.{AppendsPrefix}
@@ -74,7 +74,7 @@ pub record IsWorkOf (lines : List (List ℕ)) (text : List ℕ) : Type 0 where
   pub told : text ≡ work_text schema header entries
 
 -- The work of all that was read is written, the input has ended, and it is within the limits on lines and bytes.
-pub record WritesWork (from to before after : Option (List ℕ)) (last : End) : Type 0 where
+pub record WritesWork (from to before after : Option (List ℕ)) (last : CallEnd) : Type 0 where
   pub read : List ℕ
   pub text : List ℕ
   pub consumed : Consumes from to read
@@ -153,12 +153,12 @@ MakesNone schema scripts faults.Illegal = ⊥
 MakesNone schema scripts faults.NoMemory = Unit {0}
 
 -- The text of the work of all that was read, at whose end the input has ended, and which is within the limits.
-abbrev pub Tells : Option (List ℕ) → Option (List ℕ) → End → List ℕ → Type 0
+abbrev pub Tells : Option (List ℕ) → Option (List ℕ) → CallEnd → List ℕ → Type 0
 Tells from to last text =
     (read : List ℕ) × (Consumes from to read × (HasEndedAt to last × (IsWithin read × IsWorkOf (script_lines read) text)))
 
 -- The fault came in what was read.
-abbrev pub FaultsIn : Option (List ℕ) → Option (List ℕ) → End → ScriptFault → Type 0
+abbrev pub FaultsIn : Option (List ℕ) → Option (List ℕ) → CallEnd → ScriptFault → Type 0
 FaultsIn from to last fault = (read : List ℕ) × (Consumes from to read × TellsOf fault read (HasEndedAt to last))
 
 -- At a write fault a front of a text that Ok allows is written, of an input within the limits. At every other fault nothing
@@ -176,7 +176,7 @@ FailsIn faults.Illegal read ended before after = TellsOf faults.Illegal read end
 FailsIn faults.NoMemory read ended before after = TellsOf faults.NoMemory read ended × Appends before after []
 
 -- A fault comes for a reason in what was read, and nothing but a front of a text that Ok allows is written.
-pub record Fails (from to before after : Option (List ℕ)) (last : End) (fault : ScriptFault) : Type 0 where
+pub record Fails (from to before after : Option (List ℕ)) (last : CallEnd) (fault : ScriptFault) : Type 0 where
   pub read : List ℕ
   pub consumed : Consumes from to read
   pub told : FailsIn fault read (HasEndedAt to last) before after

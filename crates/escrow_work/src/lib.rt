@@ -9,5 +9,5 @@ mod scripts;
 mod text;
 mod woven;
 
-pub use script_input::{CallFailed, End, ScriptFault, Sink, Source, Watched, WorkFault};
+pub use script_input::{CallEnd, CallFailed, ScriptFault, Sink, Source, Watched, WorkFault};
 pub use text::work_text;

@@ -14,26 +14,26 @@ use Rattle.field_bounds.proofs.Lawful.{IsLawful}
 use Rattle.field_bounds.proofs.Traces.{own_here}
 use Rattle.world_steps.specs.View.{WorldValue, trace_of}
 use Rattle.world_steps.specs.declared.step.StepReply.TheVariants.{Made}
-use Rattle.reaching_steps.specs.declared.standing.Standing.{Standing}
-use Rattle.reaching_steps.specs.Standing.{Stands}
+use Rattle.reaching_steps.specs.declared.standing.FieldHoldings.{FieldHoldings}
+use Rattle.reaching_steps.specs.FieldHoldings.{Stands}
 use Rattle.reaching_steps.specs.Told.{doubt_kept_in, ends_doubt, ReadsOwn, Puts, AllRead, AreReadIn, AllTold, Renews}
 use Rattle.reaching_steps.proofs.Reading.{reads_there, reads_here, reads_on, front_at}
 use Rattle.reaching_steps.proofs.Table.{told_next, made_is}
 
 -- ---- a table in which nothing took effect
 
-abbrev pub Empties : ℕ → List Standing → Type 0
-Empties f rows = (s : ℕ) (d : Standing) → s < length rows → Stands f (get_or rows s d) []
+abbrev pub Empties : ℕ → List FieldHoldings → Type 0
+Empties f rows = (s : ℕ) (d : FieldHoldings) → s < length rows → Stands f (get_or rows s d) []
 
-pub empty_none : (f : ℕ) (rows : List Standing) → rows ≡ [] → (length rows ≡ 0) × Empties f rows
+pub empty_none : (f : ℕ) (rows : List FieldHoldings) → rows ≡ [] → (length rows ≡ 0) × Empties f rows
 empty_none f rows none =
-    let short : length rows ≡ 0 = ap (λ (l : List Standing). length l) none in
+    let short : length rows ≡ 0 = ap (λ (l : List FieldHoldings). length l) none in
     (short, λ s d below. absurd (omega (arith, below, short)))
 
-pub empty_more : (f : ℕ) (rows more : List Standing) (v : Standing) (i : ℕ) → length rows ≡ i → more ≡ rows ++ v ∷ [] → Stands f v []
+pub empty_more : (f : ℕ) (rows more : List FieldHoldings) (v : FieldHoldings) (i : ℕ) → length rows ≡ i → more ≡ rows ++ v ∷ [] → Stands f v []
     → Empties f rows → (length more ≡ i + 1) × Empties f more
 empty_more f rows more v i long is here empty =
-    let longer : length more ≡ i + 1 = ap (λ (l : List Standing). length l) is ∙ length-append rows (v ∷ []) ∙ omega (arith, long) in (
+    let longer : length more ≡ i + 1 = ap (λ (l : List FieldHoldings). length l) is ∙ length-append rows (v ∷ []) ∙ omega (arith, long) in (
       longer,
       λ s d below.
           elim (cases_eq s i) [
@@ -46,13 +46,13 @@ empty_more f rows more v i long is here empty =
 
 -- ---- one entry more
 
-pub read_past : (schema : SchemaValue) (f : ℕ) (rows : List Standing) (e : Entry) (later : List Entry) → length rows ≤ e.site.0
+pub read_past : (schema : SchemaValue) (f : ℕ) (rows : List FieldHoldings) (e : Entry) (later : List Entry) → length rows ≤ e.site.0
     → AllRead schema f rows e later rows
 read_past schema f rows e later past = λ s d below.
     let apart : e.site.0 ≢ s = λ same. omega (arith, past, below, same) in
     reads_there schema s f (get_or rows s d) (get_or rows s d) e later apart refl
 
-pub read_one : (schema : SchemaValue) (f : ℕ) (rows : List Standing) (v d : Standing) (e : Entry) (later : List Entry)
+pub read_one : (schema : SchemaValue) (f : ℕ) (rows : List FieldHoldings) (v d : FieldHoldings) (e : Entry) (later : List Entry)
     → e.site.0 < length rows → ReadsOwn schema e.site.0 f (get_or rows e.site.0 d) e (doubt_kept_in e.site.0 later) v
     → AllRead schema f rows e later (slice_set rows e.site.0 v)
 read_one schema f rows v d e later inside did = λ s x below.
@@ -67,12 +67,12 @@ read_one schema f rows v d e later inside did = λ s x below.
 
 -- ---- the whole trace
 
-pub read_start : (schema : SchemaValue) (f : ℕ) (trace : List Entry) (rows : List Standing) → Empties f rows
+pub read_start : (schema : SchemaValue) (f : ℕ) (trace : List Entry) (rows : List FieldHoldings) → Empties f rows
     → AreReadIn schema f trace 0 rows
 unfolding AreReadIn
 read_start schema f trace rows empty = λ s d below. empty s d below
 
-pub read_next : (schema x : SchemaValue) → x ≡ schema → (f : ℕ) (trace t : List Entry) (i : ℕ) (e : Entry) (rows more : List Standing)
+pub read_next : (schema x : SchemaValue) → x ≡ schema → (f : ℕ) (trace t : List Entry) (i : ℕ) (e : Entry) (rows more : List FieldHoldings)
     → i < length trace → length rows ≡ schema.sites → length more ≡ length rows → reverse trace ≡ t → IsSound schema t
     → AllRead x f rows (get_or trace i e) (take (length trace - (i + 1)) (drop (i + 1) trace)) more
     → AreReadIn schema f trace i rows → AreReadIn schema f trace (i + 1) more
@@ -82,12 +82,12 @@ read_next schema x same f trace t i e rows more below count long is sound read w
     reads_on schema x same s f i trace t e (get_or rows s d) (get_or more s d) below (omega (arith, old, count)) is sound (read s d old)
     (was s d old)
 
-pub front_whole : (schema : SchemaValue) (s f : ℕ) (trace t : List Entry) (i : ℕ) (had : Standing) → length trace ≤ i
+pub front_whole : (schema : SchemaValue) (s f : ℕ) (trace t : List Entry) (i : ℕ) (had : FieldHoldings) → length trace ≤ i
     → reverse trace ≡ t → Stands f had (front_at schema s trace i) → Stands f had (at_site schema t s)
 front_whole schema s f trace t i had past is was =
     rw (drop_of_length-le trace past, take_all i trace past, is) at was
 
-pub read_whole : (schema : SchemaValue) (f : ℕ) (trace t : List Entry) (i : ℕ) (rows : List Standing) → length trace ≤ i
+pub read_whole : (schema : SchemaValue) (f : ℕ) (trace t : List Entry) (i : ℕ) (rows : List FieldHoldings) → length trace ≤ i
     → reverse trace ≡ t → AreReadIn schema f trace i rows → AllTold schema f t rows
 unfolding AreReadIn AllTold
 read_whole schema f trace t i rows past is was = λ s d below.
@@ -99,7 +99,7 @@ no_doubt : (r : Reply) → ends_doubt r ≡ false → doubt_kept_before false r 
 no_doubt (Restarted epoch found) h = cc
 no_doubt r h = refl
 
-pub renews_put : (v : WorldValue) (f : ℕ) (e : Entry) (rows more : List Standing) (x d : Standing) → e.site.0 < length rows
+pub renews_put : (v : WorldValue) (f : ℕ) (e : Entry) (rows more : List FieldHoldings) (x d : FieldHoldings) → e.site.0 < length rows
     → ends_doubt e.reply ≡ false → IsLawful v.schema (fresh v.schema e.site.0) (at_site v.schema (trace_of v) e.site.0)
     → Puts f (get_or rows e.site.0 d) e x → more ≡ slice_set rows e.site.0 x → Renews v f (Made e) rows more
 unfolding Renews AllTold Puts
@@ -115,7 +115,7 @@ renews_put v f e rows more x d inside calm lawful put set = λ w step is same to
     let here : Stands f x (at_site v.schema (trace_of v) s) = rw next (put v.schema base es (rw next at lawful) (before s d inside)) in
     (rw (set, length-set rows s x, told.0, same) refl, rw set (told_next v.schema f t (trace_of v) e rows x now here before))
 
-pub told_back : (schema : SchemaValue) (f : ℕ) (t : List Entry) (rows all : List Standing) (n : ℕ) → length rows ≡ n
+pub told_back : (schema : SchemaValue) (f : ℕ) (t : List Entry) (rows all : List FieldHoldings) (n : ℕ) → length rows ≡ n
     → AllTold schema f t rows → AllTold schema f t (take n (rows ++ drop (length rows) all))
 told_back schema f t rows all n long told =
     rw (← long, take-append_seam rows (drop (length rows) all)) told

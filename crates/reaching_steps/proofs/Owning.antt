@@ -14,8 +14,8 @@ use Rattle.field_bounds.specs.Effects.{fresh, granted_sizes, gifts, is_to, cut, 
 use Rattle.field_bounds.specs.Owed.{max_change, max_total}
 use Rattle.field_bounds.specs.Central.{own, at_site, committed_value, given_between, IsSound}
 use Rattle.field_bounds.proofs.Steps.{granted-same}
-use Rattle.reaching_steps.specs.declared.standing.Standing.{Standing}
-use Rattle.reaching_steps.specs.Standing.{is_of, held_sizes, Tells}
+use Rattle.reaching_steps.specs.declared.standing.FieldHoldings.{FieldHoldings}
+use Rattle.reaching_steps.specs.FieldHoldings.{is_of, held_sizes, Tells}
 use Rattle.field_bounds.proofs.Sums.{sum_below-zero, sum_below-same}
 use Rattle.field_bounds.proofs.Lawful.{IsLawful}
 use Rattle.field_bounds.proofs.Shares.{balance, gains_split}
@@ -39,18 +39,18 @@ owned_is schema s es lawful f k =
     omega (arith, balance schema (fresh schema s) es lawful f k, gains, sum_below-zero schema.sites)
 
 -- what an open transaction holds, and what is settled, fits
-pub held_fits : (f : ℕ) (had : Standing) (es : List Effect) → Tells f had es
+pub held_fits : (f : ℕ) (had : FieldHoldings) (es : List Effect) → Tells f had es
     → (held_sizes (is_of None) Lower had.held.items ≤ 340282366920938463463374607431768211455)
     × (held_sizes (is_of None) Raise had.held.items ≤ 340282366920938463463374607431768211455)
 held_fits f had es tells = (omega (arith, tells.few, tells.short), omega (arith, tells.few, tells.short))
 
-pub settled_fits : (f : ℕ) (k : Kind) (had : Standing) (es : List Effect) → Tells f had es → (settled : ℕ)
+pub settled_fits : (f : ℕ) (k : Kind) (had : FieldHoldings) (es : List Effect) → Tells f had es → (settled : ℕ)
     → settled ≡ granted_sizes (λ id. is_committed id es) f k es → settled ≤ 170141183460469231731687303715884105728
 settled_fits f Lower had es tells settled is = omega (arith, is, tells.lowered, tells.few, tells.short)
 settled_fits f Raise had es tells settled is = omega (arith, is, tells.raised, tells.few, tells.short)
 
 -- the rights, from what is kept of the site
-pub rights_are : (schema : SchemaValue) (s f : ℕ) (k : Kind) (had : Standing) (es : List Effect) → IsLawful schema (fresh schema s) es
+pub rights_are : (schema : SchemaValue) (s f : ℕ) (k : Kind) (had : FieldHoldings) (es : List Effect) → IsLawful schema (fresh schema s) es
     → Tells f had es → (part turned gained settled gone held_ own_ free : ℕ) → part ≡ part_of schema s f k
     → turned ≡ granted_sizes (λ id. is_committed id es) f (other k) es → settled ≡ granted_sizes (λ id. is_committed id es) f k es
     → gained ≡ sum_below schema.sites (λ from. total_accepted (fresh schema s) from f k had.gifts.items)

@@ -21,8 +21,8 @@ use Rattle.field_bounds.specs.Central.{own, at_site, IsSound}
 use Rattle.field_bounds.proofs.Lawful.{IsLawful}
 use Rattle.field_bounds.proofs.Runs.{run_is_lawful}
 use Rattle.field_bounds.proofs.Traces.{sound_front}
-use Rattle.reaching_steps.specs.declared.standing.Standing.{Standing}
-use Rattle.reaching_steps.specs.Standing.{Tells, Stands, Notes}
+use Rattle.reaching_steps.specs.declared.standing.FieldHoldings.{FieldHoldings}
+use Rattle.reaching_steps.specs.FieldHoldings.{Tells, Stands, Notes}
 use Rattle.reaching_steps.proofs.Standings.{notes_give}
 use Rattle.reaching_steps.specs.Told.{doubt_kept_in, wanted_by, is_elsewhere, Reads, ReadsOwn, Puts}
 
@@ -36,7 +36,7 @@ without (Some e) es = refl
 uncounted : (base : Base) (kept : Bool) (c : Command) (r : Reply) (es : List Effect) → counts kept r ≡ false → after base kept c r es ≡ es
 uncounted base kept c r es off = rw off (without (effect_of base es c r) es)
 
-pub own_uncounted : (schema : SchemaValue) (s f : ℕ) (had : Standing) (e : Entry) (kept : Bool) → counts kept e.reply ≡ false
+pub own_uncounted : (schema : SchemaValue) (s f : ℕ) (had : FieldHoldings) (e : Entry) (kept : Bool) → counts kept e.reply ≡ false
     → ReadsOwn schema s f had e kept had
 unfolding ReadsOwn
 own_uncounted schema s f had e kept off = λ es lawful next was. rw (uncounted (fresh schema s) kept e.command e.reply es off) was
@@ -50,12 +50,12 @@ pushed_none : (b : Bool) (n m : ℕ) → not b ≡ true → eqb n m ≡ b → eq
 pushed_none true n m h is = cc
 pushed_none false n m h is = is
 
-gives_elsewhere : (f : ℕ) (had : Standing) (to : Option SiteNo) (field : FieldNo) (k : Kind) (n : ℕ) → eqb field.0 f ≡ false
+gives_elsewhere : (f : ℕ) (had : FieldHoldings) (to : Option SiteNo) (field : FieldNo) (k : Kind) (n : ℕ) → eqb field.0 f ≡ false
     → Notes f had (Gives to field k n) had
 gives_elsewhere f had to field k n off =
     notes_give f had had.gifts to field k n (rw off refl)
 
-spared_off : (f : ℕ) (schema : SchemaValue) (base : Base) (kept : Bool) (c : Command) (es : List Effect) (had : Standing)
+spared_off : (f : ℕ) (schema : SchemaValue) (base : Base) (kept : Bool) (c : Command) (es : List Effect) (had : FieldHoldings)
     → is_elsewhere f (wanted_by c) ≡ true
     → IsLawful schema base (after base kept c Unsure es) → Stands f had es → Stands f had (after base kept c Unsure es)
 unfolding Notes
@@ -65,7 +65,7 @@ spared_off f schema base true (Spare to field k want) es had off next was =
     (pushed_none (eqb field.0 f) field.0 f off refl) schema base es next was
 spared_off f schema base kept c es had off next was = cc
 
-pub own_elsewhere : (schema : SchemaValue) (s f : ℕ) (had : Standing) (e : Entry) (kept : Bool) → is_unsure e.reply ≡ true
+pub own_elsewhere : (schema : SchemaValue) (s f : ℕ) (had : FieldHoldings) (e : Entry) (kept : Bool) → is_unsure e.reply ≡ true
     → is_elsewhere f (wanted_by e.command) ≡ true → ReadsOwn schema s f had e kept had
 unfolding ReadsOwn
 own_elsewhere schema s f had e kept unsure off = λ es lawful next was.
@@ -103,7 +103,7 @@ pub site_few : (schema : SchemaValue) (s : ℕ) (t : List Entry) → length (at_
 site_few schema s t = omega (arith, effects_few (fresh schema s) false (own s t), own_few s t)
 
 -- it does nothing
-pub own_nothing : (schema : SchemaValue) (s f : ℕ) (had : Standing) (e : Entry) (kept : Bool)
+pub own_nothing : (schema : SchemaValue) (s f : ℕ) (had : FieldHoldings) (e : Entry) (kept : Bool)
     → ((es : List Effect) → IsLawful schema (fresh schema s) es → Tells f had es
     → None ≡ effect_of (fresh schema s) es e.command e.reply) → ReadsOwn schema s f had e kept had
 unfolding ReadsOwn Stands
@@ -112,7 +112,7 @@ own_nothing schema s f had e kept none = λ es lawful next was few.
     rw (← none es lawful here) here
 
 -- it does this
-pub own_noted : (schema : SchemaValue) (s f : ℕ) (had more : Standing) (e : Entry) (kept : Bool) (d : Effect) → counts kept e.reply ≡ true
+pub own_noted : (schema : SchemaValue) (s f : ℕ) (had more : FieldHoldings) (e : Entry) (kept : Bool) (d : Effect) → counts kept e.reply ≡ true
     → ((es : List Effect) → IsLawful schema (fresh schema s) es → Tells f had es
     → Some d ≡ effect_of (fresh schema s) es e.command e.reply) → Notes f had d more → ReadsOwn schema s f had e kept more
 unfolding ReadsOwn Notes Stands
@@ -132,17 +132,17 @@ pub unsure_never : {A : Type 0} (b : Bool) → b ≡ false → b ≡ true → A
 unsure_never true h g = cc
 unsure_never false h g = cc
 
-pub puts_unsure : (f : ℕ) (had : Standing) (e : Entry) → is_unsure e.reply ≡ true → Puts f had e had
+pub puts_unsure : (f : ℕ) (had : FieldHoldings) (e : Entry) → is_unsure e.reply ≡ true → Puts f had e had
 unfolding Puts
 puts_unsure f had e unsure = λ schema base es next was.
     rw (uncounted base false e.command e.reply es (rw (unsure_only e.reply unsure) refl)) was
 
-pub puts_nothing : (f : ℕ) (had : Standing) (e : Entry)
+pub puts_nothing : (f : ℕ) (had : FieldHoldings) (e : Entry)
     → ((base : Base) (es : List Effect) → None ≡ effect_of base es e.command e.reply) → Puts f had e had
 unfolding Puts
 puts_nothing f had e none = λ schema base es next was. rw (← none base es) was
 
-pub puts_noted : (f : ℕ) (had more : Standing) (e : Entry) (d : Effect) → is_unsure e.reply ≡ false
+pub puts_noted : (f : ℕ) (had more : FieldHoldings) (e : Entry) (d : Effect) → is_unsure e.reply ≡ false
     → ((base : Base) (es : List Effect) → Some d ≡ effect_of base es e.command e.reply) → Notes f had d more → Puts f had e more
 unfolding Puts Notes
 puts_noted f had more e d sure some notes = λ schema base es next was.
@@ -152,14 +152,14 @@ puts_noted f had more e d sure some notes = λ schema base es next was.
 -- ---- one entry of the trace
 
 -- an entry of another site
-pub reads_there : (schema : SchemaValue) (s f : ℕ) (had more : Standing) (e : Entry) (later : List Entry) → e.site.0 ≢ s → more ≡ had
+pub reads_there : (schema : SchemaValue) (s f : ℕ) (had more : FieldHoldings) (e : Entry) (later : List Entry) → e.site.0 ≢ s → more ≡ had
     → Reads schema s f had e later more
 unfolding Reads
 reads_there schema s f had more e later apart same = λ t lawful next was.
     rw (same, ne_eqb e.site.0 s apart) (rw (ne_eqb e.site.0 s apart) at was)
 
 -- an entry of the site
-pub reads_here : (schema : SchemaValue) (s f : ℕ) (had more : Standing) (e : Entry) (later : List Entry) → e.site.0 ≡ s
+pub reads_here : (schema : SchemaValue) (s f : ℕ) (had more : FieldHoldings) (e : Entry) (later : List Entry) → e.site.0 ≡ s
     → ReadsOwn schema s f had e (doubt_kept_in s later) more → Reads schema s f had e later more
 unfolding Reads ReadsOwn
 reads_here schema s f had more e later mine did = λ t lawful next was.
@@ -187,7 +187,7 @@ lawful_front schema s i trace t kept below is sound =
 abbrev pub front_at : SchemaValue → ℕ → List Entry → ℕ → List Effect
 front_at schema s trace i = effects (fresh schema s) (doubt_kept_in s (drop i trace)) (own s (reverse (take i trace)))
 
-pub reads_so : (schema : SchemaValue) (s f i : ℕ) (trace t : List Entry) (d : Entry) (had more : Standing) → i < length trace
+pub reads_so : (schema : SchemaValue) (s f i : ℕ) (trace t : List Entry) (d : Entry) (had more : FieldHoldings) → i < length trace
     → s < schema.sites → reverse trace ≡ t → IsSound schema t
     → Reads schema s f had (get_or trace i d) (drop (i + 1) trace) more
     → Stands f had (front_at schema s trace i) → Stands f more (front_at schema s trace (i + 1))
@@ -204,7 +204,7 @@ reads_so schema s f i trace t d had more below inside is sound reads was =
 rest_is : (trace : List Entry) (m : ℕ) → take (length trace - m) (drop m trace) ≡ drop m trace
 rest_is trace m = ap (λ (n : ℕ). take n (drop m trace)) (sym (length-drop m trace)) ∙ take-length (drop m trace)
 
-pub reads_on : (schema x : SchemaValue) → x ≡ schema → (s f i : ℕ) (trace t : List Entry) (d : Entry) (had more : Standing)
+pub reads_on : (schema x : SchemaValue) → x ≡ schema → (s f i : ℕ) (trace t : List Entry) (d : Entry) (had more : FieldHoldings)
     → i < length trace → s < schema.sites → reverse trace ≡ t → IsSound schema t
     → Reads x s f had (get_or trace i d) (take (length trace - (i + 1)) (drop (i + 1) trace)) more
     → Stands f had (front_at schema s trace i) → Stands f more (front_at schema s trace (i + 1))

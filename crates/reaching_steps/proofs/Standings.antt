@@ -19,8 +19,8 @@ use Rattle.field_bounds.proofs.Lawful.{IsLawful, open_parts, same_txn-true}
 use Rattle.field_bounds.proofs.Steps.{granted-or, granted-same, weigh_none, same_txn-sym, fate_here, new_is_unused}
 use Rattle.field_bounds.proofs.Stops.{closed_by_stop, stop_closes_all}
 use Rattle.reaching_steps.specs.declared.standing.Held.{Held}
-use Rattle.reaching_steps.specs.declared.standing.Standing.{Standing}
-use Rattle.reaching_steps.specs.Standing.{is_of, size_in, counted_of, held_sizes, pushed, Grows, Tells, Stands, Notes}
+use Rattle.reaching_steps.specs.declared.standing.FieldHoldings.{FieldHoldings}
+use Rattle.reaching_steps.specs.FieldHoldings.{is_of, size_in, counted_of, held_sizes, pushed, Grows, Tells, Stands, Notes}
 use Rattle.reaching_steps.proofs.Sites.{same_txn-refl}
 
 -- ---- lists
@@ -205,7 +205,7 @@ weigh_off false b c n h = refl
 
 -- ---- each effect
 
-pub notes_begin : (f : ℕ) (kept : Standing) (txns : Vec TxnId) (t : TxnId) → txns.items ≡ kept.txns.items ++ t ∷ []
+pub notes_begin : (f : ℕ) (kept : FieldHoldings) (txns : Vec TxnId) (t : TxnId) → txns.items ≡ kept.txns.items ++ t ∷ []
     → Notes f kept (Begins t) (record kept { txns = txns })
 unfolding Notes Stands
 notes_begin f kept txns t ids_is = λ schema base es lawful before few.
@@ -223,7 +223,7 @@ notes_begin f kept txns t ids_is = λ schema base es lawful before few.
       few = omega (arith, was.few);
     }
 
-pub notes_grant : (f : ℕ) (kept : Standing) (held : Vec Held) (t : TxnId) (field : FieldNo) (x : ℤ) → field.0 ≡ f
+pub notes_grant : (f : ℕ) (kept : FieldHoldings) (held : Vec Held) (t : TxnId) (field : FieldNo) (x : ℤ) → field.0 ≡ f
     → unsigned_abs x ≤ 9223372036854775808 → Grows t (kind_of x) (unsigned_abs x) kept.held.items held.items
     → Notes f kept (Grants t field x) (record kept { held = held })
 unfolding Notes Stands Grows
@@ -266,7 +266,7 @@ notes_grant f kept held t field x at small grows = λ schema base es lawful befo
     all_fit Lower m n small short h = omega (arith, small, short, h)
 
 -- a grant on another field
-pub notes_elsewhere : (f : ℕ) (kept : Standing) (t : TxnId) (field : FieldNo) (x : ℤ) → field.0 ≢ f → Notes f kept (Grants t field x) kept
+pub notes_elsewhere : (f : ℕ) (kept : FieldHoldings) (t : TxnId) (field : FieldNo) (x : ℤ) → field.0 ≢ f → Notes f kept (Grants t field x) kept
 unfolding Notes Stands
 notes_elsewhere f kept t field x apart = λ schema base es lawful before few.
     let was = before (omega (arith, few)) in
@@ -285,7 +285,7 @@ notes_elsewhere f kept t field x apart = λ schema base es lawful before few.
     }
 
 -- the transaction ends
-module _ (f : ℕ) (kept more : Standing) (t : TxnId)
+module _ (f : ℕ) (kept more : FieldHoldings) (t : TxnId)
     (ids_is : more.txns.items ≡ filter (λ (x : TxnId). not (same_txn x t)) kept.txns.items)
     (held_is : more.held.items ≡ filter (λ (row : Held). not (same_txn row.txn t)) kept.held.items)
     (gifts_is : more.gifts ≡ kept.gifts) where
@@ -407,7 +407,7 @@ module _ (f : ℕ) (kept more : Standing) (t : TxnId)
         few = omega (arith, was.few, raised_is, lowered_is, left Raise, left Lower);
       }
 
-pub notes_give : (f : ℕ) (kept : Standing) (list : Vec Effect) (to : Option SiteNo) (field : FieldNo) (kind : Kind) (n : ℕ)
+pub notes_give : (f : ℕ) (kept : FieldHoldings) (list : Vec Effect) (to : Option SiteNo) (field : FieldNo) (kind : Kind) (n : ℕ)
     → list.items ≡ pushed (eqb field.0 f) kept.gifts.items (Gives to field kind n)
     → Notes f kept (Gives to field kind n) (record kept { gifts = list })
 unfolding Notes Stands
@@ -435,7 +435,7 @@ notes_give f kept list to field kind n is = λ schema base es lawful before few.
     taken x s from k true = accepted_push (fresh x s) from f k (Gives to field kind n) kept.gifts.items
     taken x s from k false = refl
 
-pub notes_accept : (f : ℕ) (kept : Standing) (list : Vec Effect) (site : SiteNo) (field : FieldNo) (kind : Kind) (n : ℕ)
+pub notes_accept : (f : ℕ) (kept : FieldHoldings) (list : Vec Effect) (site : SiteNo) (field : FieldNo) (kind : Kind) (n : ℕ)
     → list.items ≡ pushed (eqb field.0 f) kept.gifts.items (Accepts site field kind n)
     → Notes f kept (Accepts site field kind n) (record kept { gifts = list })
 unfolding Notes Stands
@@ -470,7 +470,7 @@ notes_accept f kept list site field kind n is = λ schema base es lawful before 
         ∙ ap (λ (m : ℕ). cond (eqb field.0 f && same_kind kind k && eqb site.0 from) (max n m) m) was
     taken x s from k false off all was = was ∙ off_is (eqb field.0 f) (same_kind kind k) (eqb site.0 from) (max n all) all off
 
-pub notes_stop : (f : ℕ) (kept : Standing) (txns : Vec TxnId) (held : Vec Held) → txns.items ≡ [] → held.items ≡ []
+pub notes_stop : (f : ℕ) (kept : FieldHoldings) (txns : Vec TxnId) (held : Vec Held) → txns.items ≡ [] → held.items ≡ []
     → Notes f kept Stops (record kept { txns = txns; held = held })
 unfolding Notes Stands
 notes_stop f kept txns held open_is held_is = λ schema base es lawful before few.
@@ -490,7 +490,7 @@ notes_stop f kept txns held open_is held_is = λ schema base es lawful before fe
 
 -- ---- the start, and a walk over what is held
 
-pub stands_first : (kept : Standing) → kept.txns.items ≡ [] → kept.held.items ≡ [] → kept.raised ≡ 0 → kept.lowered ≡ 0
+pub stands_first : (kept : FieldHoldings) → kept.txns.items ≡ [] → kept.held.items ≡ [] → kept.raised ≡ 0 → kept.lowered ≡ 0
     → kept.gifts.items ≡ [] → (f : ℕ) → Stands f kept []
 unfolding Stands
 stands_first kept open_is held_is raised_is lowered_is gifts_is f = λ few.
@@ -516,6 +516,6 @@ held_step q k held i d x y a below adds same was fits =
     omega (arith, is, adds (omega (arith, is, whole, same, fits)), whole, same)
 
 -- of as many effects as a list can have
-pub told_so : (f : ℕ) (kept : Standing) (es : List Effect) → Stands f kept es → length es ≤ 18446744073709551615 → Tells f kept es
+pub told_so : (f : ℕ) (kept : FieldHoldings) (es : List Effect) → Stands f kept es → length es ≤ 18446744073709551615 → Tells f kept es
 unfolding Stands
 told_so f kept es was few = was few

@@ -12,14 +12,14 @@ use Rattle.world_steps.specs.View.{Answers}
 use Rattle.world_steps.specs.declared.step.WorldStep.{WorldStep}
 use Rattle.world_steps.specs.declared.step.StepReply.{StepReply}
 use Rattle.world_steps.specs.declared.step.StepReply.TheVariants.{Made, NoStatement}
-use Rattle.reaching_steps.specs.declared.standing.Standing.{Standing}
-use Rattle.reaching_steps.specs.Standing.{Tells, Stands}
+use Rattle.reaching_steps.specs.declared.standing.FieldHoldings.{FieldHoldings}
+use Rattle.reaching_steps.specs.FieldHoldings.{Tells, Stands}
 use Rattle.reaching_steps.proofs.Standings.{told_so}
 use Rattle.reaching_steps.proofs.Reading.{site_few}
 use Rattle.reaching_steps.specs.Told.{AllTold, IsTrial, Renews}
 
 -- one entry more, by which its site stands so
-pub told_next : (schema : SchemaValue) (f : ℕ) (t u : List Entry) (e : Entry) (rows : List Standing) (v : Standing) → u ≡ e ∷ t
+pub told_next : (schema : SchemaValue) (f : ℕ) (t u : List Entry) (e : Entry) (rows : List FieldHoldings) (v : FieldHoldings) → u ≡ e ∷ t
     → Stands f v (at_site schema u e.site.0)
     → AllTold schema f t rows → AllTold schema f u (slice_set rows e.site.0 v)
 unfolding AllTold
@@ -32,7 +32,7 @@ told_next schema f t u e rows v is here told = λ s d below.
     ]
 
 -- what a whole table tells of a site
-pub told_of : {w v : WorldValue} (f : ℕ) (rows : List Standing) {whole : Bool} {s i : ℕ} {x : Standing} (trace : List Entry) → w ≡ v
+pub told_of : {w v : WorldValue} (f : ℕ) (rows : List FieldHoldings) {whole : Bool} {s i : ℕ} {x : FieldHoldings} (trace : List Entry) → w ≡ v
     → IsTrial v f rows whole → whole ≡ true → s < w.schema.sites → i ≡ s → x ≡ get_or rows i x
     → length trace ≤ 18446744073709551615 → reverse trace ≡ trace_of v → Tells f x (at_site w.schema (trace_of w) s)
 unfolding AllTold
@@ -50,11 +50,11 @@ made_is w v step e is = ap (λ (l : List Lucky). entries l) is
 none_is : (w v : WorldValue) (step : WorldStep) → Answers NoStatement w step v → trace_of v ≡ trace_of w
 none_is w v step is = ap (λ (l : List Lucky). entries l) is.1
 
-pub renews_none : (v : WorldValue) (f : ℕ) (rows : List Standing) → Renews v f NoStatement rows rows
+pub renews_none : (v : WorldValue) (f : ℕ) (rows : List FieldHoldings) → Renews v f NoStatement rows rows
 unfolding Renews
 renews_none v f rows = λ w step is same told. (rw same told.0, rw (none_is w v step is, same) told.1)
 
-pub renews_made : (v : WorldValue) (f : ℕ) (e : Entry) (rows more : List Standing) (x : Standing)
+pub renews_made : (v : WorldValue) (f : ℕ) (e : Entry) (rows more : List FieldHoldings) (x : FieldHoldings)
     → Stands f x (at_site v.schema (trace_of v) e.site.0) → more ≡ slice_set rows e.site.0 x
     → Renews v f (Made e) rows more
 unfolding Renews
@@ -64,14 +64,14 @@ renews_made v f e rows more x here set = λ w step is same told. (
       (subst (λ (y : SchemaValue). AllTold y f (trace_of w) rows) (sym same) told.1)),
 )
 
-pub renewed : (w v : WorldValue) (f : ℕ) (step : WorldStep) (reply : StepReply) (rows more : List Standing) (whole : Bool)
+pub renewed : (w v : WorldValue) (f : ℕ) (step : WorldStep) (reply : StepReply) (rows more : List FieldHoldings) (whole : Bool)
     → Answers reply w step v → v.schema ≡ w.schema
     → Renews v f reply rows more → IsTrial w f rows whole → IsTrial v f more whole
 unfolding Renews
 renewed w v f step reply rows more whole is same renews trial = λ h. renews w step is same (trial h)
 
 -- beyond the table there is no site
-pub renews_past : (v : WorldValue) (f : ℕ) (e : Entry) (rows : List Standing) → length rows ≤ e.site.0 → e.site.0 < v.schema.sites
+pub renews_past : (v : WorldValue) (f : ℕ) (e : Entry) (rows : List FieldHoldings) → length rows ≤ e.site.0 → e.site.0 < v.schema.sites
     → Renews v f (Made e) rows rows
 unfolding Renews
 renews_past v f e rows past below = λ w step is same told.

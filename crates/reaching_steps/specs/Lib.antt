@@ -1,6 +1,6 @@
 pub mod Reach
 pub mod Worked
-pub mod Standing
+pub mod FieldHoldings
 pub mod Told
 pub mod Taken
 pub mod Body

@@ -6,9 +6,9 @@ ghost use Rattle.field_bounds.specs.Kind.{other};
 ghost use Rattle.field_bounds.specs.Parts.{part_of};
 ghost use Rattle.field_bounds.specs.Effects.{fresh, own_rights, share, granted_sizes, is_committed};
 ghost use Rattle.field_bounds.specs.Lawful.{IsLawful};
-ghost use Rattle.reaching_steps.specs.Standing.{is_of, held_sizes, Tells};
+ghost use Rattle.reaching_steps.specs.FieldHoldings.{is_of, held_sizes, Tells};
 
-use crate::standing::{Standing, held_by};
+use crate::standing::{FieldHoldings, held_by};
 use crate::totals::{Receivers, gained_in, gifts_in};
 use field_bounds::{FieldNo, Kind, Schema, SiteNo};
 
@@ -25,7 +25,7 @@ fn part_at(schema: &Schema, site: SiteNo, field: FieldNo, kind: Kind) -> u64
 }
 
 /// The committed escrows of a kind, and those of the other.
-fn settled_of(standing: &Standing, kind: Kind) -> (u128, u128)
+fn settled_of(standing: &FieldHoldings, kind: Kind) -> (u128, u128)
     ensures settled { (f : ℕ) (es : List Effect) → Tells f standing.now es →
         result.0 ≡ granted_sizes (λ id. is_committed id es) f kind es }
     ensures turned { (f : ℕ) (es : List Effect) → Tells f standing.now es →
@@ -38,7 +38,7 @@ fn settled_of(standing: &Standing, kind: Kind) -> (u128, u128)
 }
 
 /// What the open transactions hold of a kind.
-fn held_of(standing: &Standing, kind: Kind) -> u128
+fn held_of(standing: &FieldHoldings, kind: Kind) -> u128
     ensures held { (f : ℕ) (es : List Effect) → Tells f standing.now es →
         result ≡ held_sizes (is_of None) kind standing.now.held.items }
 {
@@ -55,7 +55,7 @@ fn held_of(standing: &Standing, kind: Kind) -> u128
 /// was given and accepted on it.
 pub(crate) fn rights_of(
     schema: &Schema,
-    standing: &Standing,
+    standing: &FieldHoldings,
     site: SiteNo,
     field: FieldNo,
     kind: Kind,

@@ -9,11 +9,11 @@ ghost use Rattle.field_bounds.specs.Owed.{is_unsure};
 ghost use Rattle.field_bounds.specs.Central.{at_site};
 ghost use Rattle.field_bounds.specs.Lawful.{IsLawful};
 ghost use Rattle.world_steps.specs.View.{trace_of};
-ghost use Rattle.reaching_steps.specs.Standing.{Tells, Stands};
+ghost use Rattle.reaching_steps.specs.FieldHoldings.{Tells, Stands};
 ghost use Rattle.reaching_steps.specs.Told.{doubt_kept_in, wanted_by, spared_for, is_elsewhere, ends_doubt, Reads, ReadsOwn, Puts, AllRead};
 
 use crate::rights::rights_of;
-use crate::standing::{Standing, note, standing_at_first};
+use crate::standing::{FieldHoldings, note, standing_at_first};
 use field_bounds::{
     Command, Effect, Entry, FieldNo, Kind, Last, Reply, Schema, SiteNo, spared_amount,
 };
@@ -91,7 +91,7 @@ fn is_spared_elsewhere(entry: &Entry, field: FieldNo) -> bool
 /// What a reply in doubt spared of the field, where the site stood so.
 fn spared_in_doubt(
     schema: &Schema,
-    standing: &Standing,
+    standing: &FieldHoldings,
     entry: &Entry,
     site: SiteNo,
     field: FieldNo,
@@ -223,7 +223,7 @@ fn counts(entry: &Entry, later: &[Entry], site: SiteNo) -> bool
 #[inline(always)]
 fn read_own(
     schema: &Schema,
-    standing: &mut Standing,
+    standing: &mut FieldHoldings,
     entry: &Entry,
     later: &[Entry],
     site: SiteNo,
@@ -249,7 +249,7 @@ fn read_own(
 /// One more entry of the trace is read; the others' did nothing here.
 fn read_entry(
     schema: &Schema,
-    standing: &mut Standing,
+    standing: &mut FieldHoldings,
     entry: &Entry,
     later: &[Entry],
     site: SiteNo,
@@ -269,7 +269,7 @@ fn read_entry(
 #[inline(always)]
 pub(crate) fn read_there(
     schema: &Schema,
-    table: &mut [Standing],
+    table: &mut [FieldHoldings],
     entry: &Entry,
     later: &[Entry],
     field: FieldNo,
@@ -296,7 +296,7 @@ pub(crate) fn ends_doubt(reply: Reply) -> bool
 
 /// One more entry of a site, which ends no doubt. The error is want of memory.
 pub(crate) fn put_next(
-    standing: &mut Standing,
+    standing: &mut FieldHoldings,
     entry: &Entry,
     field: FieldNo,
 ) -> Result<(), AllocError>
@@ -318,7 +318,7 @@ pub(crate) fn standing_at(
     world: &World,
     site: SiteNo,
     field: FieldNo,
-) -> Result<Standing, AllocError>
+) -> Result<FieldHoldings, AllocError>
     requires in_schema { site.0 < world.now.schema.sites }
     ensures value { IfOk result (λ standing. Stands field.0 standing
         (at_site world.now.schema (trace_of world.now) site.0)) }

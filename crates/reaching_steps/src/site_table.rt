@@ -1,21 +1,21 @@
 //! Where each site of a world stands on a field, in a table.
 
 ghost use Rattle.std.specs.Prelude.{◌≡◌, ℕ, ◌<◌, [], IfOk, OnOk, length, get_or};
-ghost use Rattle.reaching_steps.specs.declared.standing.Standing.{Standing};
+ghost use Rattle.reaching_steps.specs.declared.standing.FieldHoldings.{FieldHoldings};
 ghost use Rattle.world_steps.specs.View.{trace_of};
-ghost use Rattle.reaching_steps.specs.Standing.{Stands};
+ghost use Rattle.reaching_steps.specs.FieldHoldings.{Stands};
 ghost use Rattle.reaching_steps.specs.Told.{AllTold, IsMadeWithin, Renews};
 
 use crate::site_effects::{ends_doubt, put_next, read_there, standing_at};
-use crate::standing::{Standing, standing_at_first};
+use crate::standing::{FieldHoldings, standing_at_first};
 use field_bounds::FieldNo;
 use std::alloc::{AllocError, Global};
 use world_steps::{StepReply, World};
 
 /// A table in which nothing took effect.
-fn empty_table(alloc: Global, sites: u16, field: FieldNo) -> Result<Vec<Standing>, AllocError>
+fn empty_table(alloc: Global, sites: u16, field: FieldNo) -> Result<Vec<FieldHoldings>, AllocError>
     ensures count { IfOk result (λ table. length table.items ≡ sites) }
-    ensures empty { IfOk result (λ table. (s : ℕ) (d : Standing) → s < length table.items →
+    ensures empty { IfOk result (λ table. (s : ℕ) (d : FieldHoldings) → s < length table.items →
         Stands field.0 (get_or table.items s d) []) }
 {
     let mut table = Vec::new(alloc);
@@ -26,9 +26,9 @@ fn empty_table(alloc: Global, sites: u16, field: FieldNo) -> Result<Vec<Standing
 }
 
 /// A table in which nothing took effect is filled: the trace is read, each entry at its site.
-fn fill(world: &World, table: &mut [Standing], field: FieldNo) -> Result<(), AllocError>
+fn fill(world: &World, table: &mut [FieldHoldings], field: FieldNo) -> Result<(), AllocError>
     requires count { length table.old ≡ world.now.schema.sites }
-    requires empty { (s : ℕ) (d : Standing) → s < length table.old →
+    requires empty { (s : ℕ) (d : FieldHoldings) → s < length table.old →
         Stands field.0 (get_or table.old s d) [] }
     ensures told { OnOk result (AllTold world.now.schema field.0 (trace_of world.now) table.new) }
 {
@@ -49,7 +49,7 @@ pub(crate) fn table_of(
     alloc: Global,
     world: &World,
     field: FieldNo,
-) -> Result<Vec<Standing>, AllocError>
+) -> Result<Vec<FieldHoldings>, AllocError>
     ensures count { IfOk result (λ table. length table.items ≡ world.now.schema.sites) }
     ensures told { IfOk result (λ table. AllTold world.now.schema field.0
         (trace_of world.now) table.items) }
@@ -65,7 +65,7 @@ pub(crate) fn table_of(
 pub(crate) fn renew(
     alloc: Global,
     world: &World,
-    table: &mut Vec<Standing>,
+    table: &mut Vec<FieldHoldings>,
     reply: StepReply,
     field: FieldNo,
 ) -> Result<(), AllocError>

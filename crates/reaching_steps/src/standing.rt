@@ -6,7 +6,7 @@ ghost use Rattle.field_bounds.specs.declared.effect.Effect.TheVariants as effect
 ghost use Rattle.field_bounds.specs.declared.kind.Kind.TheVariants.{Lower, Raise};
 ghost use Rattle.field_bounds.specs.Kind.{kind_of, same_kind};
 ghost use Rattle.field_bounds.specs.Effects.{same_txn};
-ghost use Rattle.reaching_steps.specs.Standing.{is_of, size_in, counted_of, held_sizes, pushed, Grows, Stands, Notes};
+ghost use Rattle.reaching_steps.specs.FieldHoldings.{is_of, size_in, counted_of, held_sizes, pushed, Grows, Stands, Notes};
 
 use field_bounds::{Effect, FieldNo, Kind, TxnId, same_txn};
 use std::alloc::{AllocError, Global};
@@ -25,7 +25,7 @@ pub(crate) struct Held {
 /// the field, and lowered it; and what was given and accepted of the rights on it, the oldest first.
 /// Of a transaction that has ended no more is kept than these sums.
 #[derive(Drop)]
-pub(crate) struct Standing {
+pub(crate) struct FieldHoldings {
     pub(crate) txns: Vec<TxnId>,
     pub(crate) held: Vec<Held>,
     pub(crate) raised: u128,
@@ -34,10 +34,10 @@ pub(crate) struct Standing {
 }
 
 /// A site at which nothing took effect.
-pub(crate) fn standing_at_first(alloc: Global) -> Standing
+pub(crate) fn standing_at_first(alloc: Global) -> FieldHoldings
     ensures fresh { (f : ℕ) → Stands f result [] }
 {
-    Standing {
+    FieldHoldings {
         txns: Vec::new(alloc),
         held: Vec::new(alloc),
         raised: 0,
@@ -170,7 +170,7 @@ fn push_on(
 
 /// A transaction ends: it is open no more, and holds nothing. Costs a look at each open transaction.
 #[inline(always)]
-fn end(standing: &mut Standing, txn: TxnId)
+fn end(standing: &mut FieldHoldings, txn: TxnId)
     ensures ids { standing.new.txns.items
         ≡ filter (λ x. not (same_txn x txn)) standing.old.txns.items }
     ensures held { standing.new.held.items
@@ -186,7 +186,7 @@ fn end(standing: &mut Standing, txn: TxnId)
 /// A transaction is committed: what it holds is added to the sums, and it ends. Costs a look at each
 /// open transaction, and no memory.
 #[inline(always)]
-fn commit(standing: &mut Standing, txn: TxnId)
+fn commit(standing: &mut FieldHoldings, txn: TxnId)
     ensures noted { (f : ℕ) → Notes f standing.old (effects.Commits txn) standing.new }
 {
     let (lower, raise) = held_by(&standing.held, Some(txn));
@@ -198,7 +198,7 @@ fn commit(standing: &mut Standing, txn: TxnId)
 /// One effect more takes place at the site. The error is want of memory.
 #[inline(always)]
 pub(crate) fn note(
-    standing: &mut Standing,
+    standing: &mut FieldHoldings,
     effect: Effect,
     field: FieldNo,
 ) -> Result<(), AllocError>

@@ -12,7 +12,7 @@ ghost use Rattle.reaching_steps.specs.declared.fault.ReachFault.TheVariants.{NoM
 
 use crate::fault::ReachFault;
 use crate::site_table::table_of;
-use crate::standing::Standing;
+use crate::standing::FieldHoldings;
 use crate::steps::reach_on;
 use crate::taken::StepTaken;
 use crate::trial::Trial;
@@ -26,7 +26,7 @@ use world_steps::{World, WorldStep};
 fn reach_by(
     alloc: Global,
     world: &mut World,
-    told: Vec<Standing>,
+    told: Vec<FieldHoldings>,
     stand_in: World,
     site: SiteNo,
     field: FieldNo,

@@ -2,7 +2,7 @@
 
 ghost use Rattle.std.specs.Prelude.{◌≡◌, ◌<◌, ◌++◌, [], ◌∷◌, IfOk, OnOk, OnErr, reverse};
 ghost use Rattle.field_bounds.specs.Effects.{open_txns};
-ghost use Rattle.reaching_steps.specs.Standing.{Tells};
+ghost use Rattle.reaching_steps.specs.FieldHoldings.{Tells};
 ghost use Rattle.field_bounds.specs.Limits.{IsSchema};
 ghost use Rattle.field_bounds.specs.Central.{at_site, IsSound};
 ghost use Rattle.world_steps.specs.World.{StepFits};
@@ -11,7 +11,7 @@ ghost use Rattle.reaching_steps.specs.Taken.{TookFront};
 ghost use Rattle.reaching_steps.specs.Told.{IsToldBy};
 
 use crate::site_table::renew;
-use crate::standing::Standing;
+use crate::standing::FieldHoldings;
 use field_bounds::{FieldNo, SiteNo, TxnId};
 use std::alloc::{AllocError, Global};
 use std::marker::Model;
@@ -23,7 +23,7 @@ use world_steps::{StepReply, World, WorldStep};
 pub(crate) struct Trial {
     world: World,
     field: FieldNo,
-    told: Vec<Standing>,
+    told: Vec<FieldHoldings>,
     is_whole: bool,
 }
 
@@ -40,7 +40,7 @@ impl Model for Trial {
 
 impl Trial {
     /// The trial on a world, in which no other step was tried yet, by its table.
-    pub(crate) fn of(world: World, told: Vec<Standing>, field: FieldNo) -> Trial
+    pub(crate) fn of(world: World, told: Vec<FieldHoldings>, field: FieldNo) -> Trial
         requires told { IsToldBy world field.0 told.items }
         ensures same { result ≡ world }
     {
@@ -101,7 +101,11 @@ impl Trial {
 
     /// Where a site stands on the field that the trial is of, at the cost of a look. The error tells
     /// that the table doesn't know: memory was wanting in an earlier step, or the field is another.
-    pub(crate) fn standing_at(&self, site: SiteNo, field: FieldNo) -> Result<&Standing, AllocError>
+    pub(crate) fn standing_at(
+        &self,
+        site: SiteNo,
+        field: FieldNo,
+    ) -> Result<&FieldHoldings, AllocError>
         requires in_schema { site.0 < self.now.schema.sites }
         ensures value { IfOk result (λ told. Tells field.0 told.now
             (at_site self.now.schema (trace_of self.now) site.0)) }

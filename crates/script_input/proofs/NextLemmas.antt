@@ -2,7 +2,7 @@
 use Rattle.std.proofs.Common.{◌≡◌, ℕ, ◌+◌, ◌<◌, List, [], ◌∷◌, ◌++◌, Option, true, false, cond, eqb, length, refl, sym, ap, ◌∙◌, append_assoc, append-nil, inl, inr, ◌⊎◌, arith}
 use Rattle.std.specs.Io.KnownBytes.{Consumes}
 use Rattle.std.proofs.lemmas.List.{length-append, length_push}
-use Rattle.script_input.specs.declared.streams.End.{End}
+use Rattle.script_input.specs.declared.streams.CallEnd.{CallEnd}
 use Rattle.script_input.specs.declared.reader.LineReader.{LineReader}
 use Rattle.script_input.specs.declared.fault.ScriptFault.TheVariants.{NoMemory}
 use Rattle.script_input.specs.Lines.{whole_lines_after, last_part_after, whole_lines, last_part, last_line, with_header, lines_of, script_lines}
@@ -49,14 +49,14 @@ with_header-count (line ∷ lines) h = refl
 -- ---- the line behind some, of which the first is the header
 
 -- The lines of what was read go on with this line behind those that were given, and it was reached.
-pub record HasNext (from to : Option (List ℕ)) (last : End) (given : List (List ℕ)) (line : List ℕ) (most : ℕ) : Type 0 where
+pub record HasNext (from to : Option (List ℕ)) (last : CallEnd) (given : List (List ℕ)) (line : List ℕ) (most : ℕ) : Type 0 where
   pub read : List ℕ
   pub later : List (List ℕ)
   pub consumed : Consumes from to read
   pub parts : script_lines read ≡ given ++ line ∷ later
   pub reached : IsLineReached read (length given + 1) most (HasEndedAt to last)
 
-module _ (from to : Option (List ℕ)) (last : End) (r : LineReader) (header : List ℕ) (behind given : List (List ℕ))
+module _ (from to : Option (List ℕ)) (last : CallEnd) (r : LineReader) (header : List ℕ) (behind given : List (List ℕ))
     (headed : given ≡ header ∷ behind) where
   headed_on : (more lines : List (List ℕ)) → lines ≡ given ++ more → with_header lines ≡ given ++ more
   headed_on more lines e = ap with_header e ∙ with_header-some given more header behind headed
@@ -167,7 +167,7 @@ module _ (from to : Option (List ℕ)) (last : End) (r : LineReader) (header : L
 
 -- ---- want of memory, before more is read
 
-pub stops_no_memory : (from to : Option (List ℕ)) (last : End) (given : List (List ℕ)) → ReadsNoFurther from to given
+pub stops_no_memory : (from to : Option (List ℕ)) (last : CallEnd) (given : List (List ℕ)) → ReadsNoFurther from to given
     → StopsAt from to last given NoMemory
 stops_no_memory from to last given reads = record {
   front = reads.front;

@@ -5,7 +5,7 @@ use Rattle.std.specs.Io.KnownBytes.{Consumes, Keeps}
 use Rattle.std.proofs.KnownBytes.{Consumes-nil, Consumes-kept, Consumes-trans}
 use Rattle.std.proofs.lemmas.List.{length-append, length_push, length-take-le, length-drop, take-take, take-append-drop, take_all, nil_from_length}
 use Rattle.std.proofs.lemmas.List.Elements.{All-take}
-use Rattle.script_input.specs.declared.streams.End.{End}
+use Rattle.script_input.specs.declared.streams.CallEnd.{CallEnd}
 use Rattle.script_input.specs.declared.reader.LineReader.{LineReader}
 use Rattle.script_input.specs.declared.reader.NextLine.{NextLine}
 use Rattle.script_input.specs.declared.reader.NextLine.TheVariants as nexts
@@ -55,7 +55,7 @@ near_grown part piece unbroken most = omega (arith, length-append part piece, un
 
 -- ---- where a reader stands
 
-module _ (from to : Option (List ℕ)) (last : End) (old : LineReader) (given : List (List ℕ)) (reads : Reads from to last old given) where
+module _ (from to : Option (List ℕ)) (last : CallEnd) (old : LineReader) (given : List (List ℕ)) (reads : Reads from to last old given) where
   gone : List ℕ
   gone = reads.gone
 
@@ -236,7 +236,7 @@ module _ (from to : Option (List ℕ)) (last : End) (old : LineReader) (given : 
   ]
 
   -- at its fault what was read is all
-  pub stops_read : (later : Option (List ℕ)) (end : End) → Keeps to later → IsDue old → StopsAt from later end given Read
+  pub stops_read : (later : Option (List ℕ)) (end : CallEnd) → Keeps to later → IsDue old → StopsAt from later end given Read
   stops_read later end kept due =
       let at = behind_open due.not_ended in
       let same : whole_lines (reads.gone ++ pending old) ≡ given =
@@ -251,7 +251,7 @@ module _ (from to : Option (List ℕ)) (last : End) (old : LineReader) (given : 
       }
 
   -- a read brings more
-  pub reads_more : (later : Option (List ℕ)) (end : End) (new : LineReader) (piece : List ℕ) → IsDue old → Consumes to later piece
+  pub reads_more : (later : Option (List ℕ)) (end : CallEnd) (new : LineReader) (piece : List ℕ) → IsDue old → Consumes to later piece
       → length piece ≤ 65536 → pending new ≡ pending old ++ piece → new.taken ≡ old.taken → new.lines ≡ old.lines → new.passed ≡ old.passed
       → new.ended ≡ old.ended → Reads from later end new given
   reads_more later end new piece due got most left taken lines passed ended =
@@ -288,7 +288,7 @@ pub some_of : (n : ℕ) → (n ≡ 0 → ⊥) → 0 < n
 some_of zero some = absurd (some refl)
 some_of (suc n) some = omega arith
 
-module _ (from to : Option (List ℕ)) (last : End) (old new : LineReader) (given : List (List ℕ)) (reads : Reads from to last old given)
+module _ (from to : Option (List ℕ)) (last : CallEnd) (old new : LineReader) (given : List (List ℕ)) (reads : Reads from to last old given)
     (count : ℕ) (fits : count ≤ length (pending old)) (unbroken : All (λ b. b ≢ 10) (take count (pending old))) where
   -- the first bytes of the part
   front_unbroken : (k : ℕ) → k ≤ count → All (λ b. b ≢ 10) (take k (pending old))
@@ -379,7 +379,7 @@ module _ (from to : Option (List ℕ)) (last : End) (old new : LineReader) (give
         (step.ended ∙ ended) ended none_first)
 
 -- before the first read
-pub reads_none : (from : Option (List ℕ)) (last : End) (r : LineReader) → IsFresh r → Reads from from last r []
+pub reads_none : (from : Option (List ℕ)) (last : CallEnd) (r : LineReader) → IsFresh r → Reads from from last r []
 reads_none from last r fresh = record {
   gone = [];
   consumed = subst (Consumes from from) (sym fresh.pending) (Consumes-nil from);
@@ -403,7 +403,7 @@ no_further_none from to (inl same) = record {
 no_further_none from to (inr reads) = reads
 
 -- what was passed over before reads stays so
-pub nexts_from : (from to : Option (List ℕ)) (last : End) (given : List (List ℕ)) (old middle new : LineReader) (most : ℕ) (next : NextLine)
+pub nexts_from : (from to : Option (List ℕ)) (last : CallEnd) (given : List (List ℕ)) (old middle new : LineReader) (most : ℕ) (next : NextLine)
     → (old.passed ≡ 0 → middle.passed ≡ 0) → old.passed ≤ middle.passed → Nexts from to last given middle new most (Ok next)
     → Nexts from to last given old new most (Ok next)
 nexts_from from to last given old middle new most nexts.Line none more is = is
@@ -421,7 +421,7 @@ nexts_from from to last given old middle new most nexts.End none more is = is
 -- ---- the header line
 
 -- it tells no schema
-pub stops_header : (from to : Option (List ℕ)) (last : End) (r : LineReader) (most : ℕ) (fault : ScriptFault)
+pub stops_header : (from to : Option (List ℕ)) (last : CallEnd) (r : LineReader) (most : ℕ) (fault : ScriptFault)
     → GivesLine from to last [] r most → TellsHeader fault (schema_of (given_line r)) → StopsAt from to last [] fault
 stops_header from to last r most (faults.Header e) line told =
     let all : line.front ≡ given_line r = sym (last_part_after-none [] line.front line.whole) ∙ line.part in record {
@@ -453,7 +453,7 @@ stops_header from to last r most faults.Stuck line told = absurd told
 stops_header from to last r most faults.Illegal line told = absurd told
 
 -- it is too long
-pub stops_long : (from to : Option (List ℕ)) (last : End) (r : LineReader) → FindsLong from to last [] r 65536
+pub stops_long : (from to : Option (List ℕ)) (last : CallEnd) (r : LineReader) → FindsLong from to last [] r 65536
     → StopsAt from to last [] (faults.Header schema_faults.TooLong)
 stops_long from to last r long =
     let reads = long.reads in

@@ -8,8 +8,8 @@ use Rattle.field_bounds.specs.declared.fault.SchemaFault.{SchemaFault}
 use Rattle.field_bounds.specs.declared.fault.SchemaFault.TheVariants as schema_faults
 use Rattle.script_input.specs.declared.fault.ScriptFault.{ScriptFault}
 use Rattle.script_input.specs.declared.fault.ScriptFault.TheVariants as faults
-use Rattle.script_input.specs.declared.streams.End.{End}
-use Rattle.script_input.specs.declared.streams.End.TheVariants.{Nothing}
+use Rattle.script_input.specs.declared.streams.CallEnd.{CallEnd}
+use Rattle.script_input.specs.declared.streams.CallEnd.TheVariants.{Nothing}
 use Rattle.script_input.specs.Lines.{whole_lines, last_part, lines_of}
 use Rattle.script_input.specs.Streams.{one_more}
 
@@ -70,7 +70,7 @@ Explains faults.Illegal front back ended = ⊥
 Explains faults.NoMemory front back ended = IsWithin front × (length back ≤ 65536)
 
 -- The input has ended: no known byte is left, and the last read gave nothing.
-abbrev pub HasEndedAt : Option (List ℕ) → End → Type 0
+abbrev pub HasEndedAt : Option (List ℕ) → CallEnd → Type 0
 HasEndedAt to last = IsAtEnd to × (last ≡ Nothing)
 
 -- How many reads failed, before and after a call that this fault ends: one more at a read fault, and else as many.

@@ -3,7 +3,7 @@ use Rattle.std.specs.Prelude.{◌≡◌, ◌≢◌, ℕ, ◌+◌, ◌-◌, ◌*�
 use Rattle.std.specs.Io.KnownBytes.{Consumes}
 use Rattle.field_bounds.specs.Schema.{SchemaValue}
 use Rattle.field_bounds.specs.Header.{schema_of}
-use Rattle.script_input.specs.declared.streams.End.{End}
+use Rattle.script_input.specs.declared.streams.CallEnd.{CallEnd}
 use Rattle.script_input.specs.declared.fault.ScriptFault.{ScriptFault}
 use Rattle.script_input.specs.declared.reader.LineReader.{LineReader}
 use Rattle.script_input.specs.declared.reader.NextLine.{NextLine}
@@ -90,7 +90,7 @@ pub record IsBehindAll (r : LineReader) (gone : List ℕ) (given : List (List �
 
 -- The source has lost what was read, and of that these lines were given, in their order. Behind the line that comes next no more
 -- stands than one read brings, so at most 65,536 bytes.
-pub record Reads (from to : Option (List ℕ)) (last : End) (r : LineReader) (given : List (List ℕ)) : Type 0 where
+pub record Reads (from to : Option (List ℕ)) (last : CallEnd) (r : LineReader) (given : List (List ℕ)) : Type 0 where
   pub gone : List ℕ
   pub consumed : Consumes from to (gone ++ pending r)
   pub ended : r.ended ≡ true → HasEndedAt to last
@@ -134,7 +134,7 @@ pub record ReadsNoFurther (from to : Option (List ℕ)) (given : List (List ℕ)
 
 -- The next line is given. It has at most so many bytes, and stands whole in what was read: behind a front, within the limits, of
 -- the lines that were given before it, and in front of at most 65,536 bytes.
-pub record GivesLine (from to : Option (List ℕ)) (last : End) (given : List (List ℕ)) (r : LineReader) (most : ℕ) : Type 0 where
+pub record GivesLine (from to : Option (List ℕ)) (last : CallEnd) (given : List (List ℕ)) (r : LineReader) (most : ℕ) : Type 0 where
   pub front : List ℕ
   pub back : List ℕ
   pub consumed : Consumes from to (front ++ back)
@@ -148,12 +148,12 @@ pub record GivesLine (from to : Option (List ℕ)) (last : End) (given : List (L
   pub reads : Reads from to last r (given ++ given_line r ∷ [])
 
 -- The next line has more than so many bytes, which are passed over. It isn't given yet.
-pub record FindsLong (from to : Option (List ℕ)) (last : End) (given : List (List ℕ)) (r : LineReader) (most : ℕ) : Type 0 where
+pub record FindsLong (from to : Option (List ℕ)) (last : CallEnd) (given : List (List ℕ)) (r : LineReader) (most : ℕ) : Type 0 where
   pub long : most < r.passed
   pub reads : Reads from to last r given
 
 -- A line is given of which bytes were passed over.
-pub record GivesPassed (from to : Option (List ℕ)) (last : End) (given : List (List ℕ)) (old new : LineReader) : Type 0 where
+pub record GivesPassed (from to : Option (List ℕ)) (last : CallEnd) (given : List (List ℕ)) (old new : LineReader) : Type 0 where
   pub line : List ℕ
   pub was : 0 < old.passed
   pub long : old.passed ≤ length line
@@ -162,7 +162,7 @@ pub record GivesPassed (from to : Option (List ℕ)) (last : End) (given : List 
   pub reads : Reads from to last new (given ++ line ∷ [])
 
 -- The input has ended within the limits, and all its lines were given.
-pub record GaveAll (from to : Option (List ℕ)) (last : End) (given : List (List ℕ)) : Type 0 where
+pub record GaveAll (from to : Option (List ℕ)) (last : CallEnd) (given : List (List ℕ)) : Type 0 where
   pub read : List ℕ
   pub consumed : Consumes from to read
   pub ended : HasEndedAt to last
@@ -170,7 +170,7 @@ pub record GaveAll (from to : Option (List ℕ)) (last : End) (given : List (Lis
   pub all : script_lines read ≡ given
 
 -- A fault comes behind the lines that were given, for a reason.
-pub record StopsAt (from to : Option (List ℕ)) (last : End) (given : List (List ℕ)) (fault : ScriptFault) : Type 0 where
+pub record StopsAt (from to : Option (List ℕ)) (last : CallEnd) (given : List (List ℕ)) (fault : ScriptFault) : Type 0 where
   pub front : List ℕ
   pub back : List ℕ
   pub consumed : Consumes from to (front ++ back)
@@ -178,7 +178,7 @@ pub record StopsAt (from to : Option (List ℕ)) (last : End) (given : List (Lis
   pub why : Explains fault front back (HasEndedAt to last)
 
 -- What comes next, behind the lines that were given.
-abbrev pub Nexts : Option (List ℕ) → Option (List ℕ) → End → List (List ℕ) → LineReader → LineReader → ℕ
+abbrev pub Nexts : Option (List ℕ) → Option (List ℕ) → CallEnd → List (List ℕ) → LineReader → LineReader → ℕ
     → Result NextLine ScriptFault → Type 0
 Nexts from to last given old new most (Ok nexts.Line) = GivesLine from to last given new most
 Nexts from to last given old new most (Ok nexts.Long) = FindsLong from to last given new most
@@ -187,14 +187,14 @@ Nexts from to last given old new most (Ok nexts.End) = GaveAll from to last give
 Nexts from to last given old new most (Err fault) = StopsAt from to last given fault
 
 -- What comes next in what was read.
-abbrev pub Finds : Option (List ℕ) → Option (List ℕ) → End → List (List ℕ) → LineReader → LineReader → ℕ
+abbrev pub Finds : Option (List ℕ) → Option (List ℕ) → CallEnd → List (List ℕ) → LineReader → LineReader → ℕ
     → Result (Option NextLine) ScriptFault → Type 0
 Finds from to last given old new most (Ok None) = Reads from to last new given
 Finds from to last given old new most (Ok (Some next)) = Nexts from to last given old new most (Ok next)
 Finds from to last given old new most (Err fault) = StopsAt from to last given fault
 
 -- The first line was given, and tells a schema.
-pub record HasHeader (from to : Option (List ℕ)) (last : End) (r : LineReader) (schema : SchemaValue) : Type 0 where
+pub record HasHeader (from to : Option (List ℕ)) (last : CallEnd) (r : LineReader) (schema : SchemaValue) : Type 0 where
   pub told : schema_of (given_line r) ≡ Ok schema
   pub passed : r.passed ≡ 0
   pub reads : Reads from to last r (given_line r ∷ [])

@@ -1,19 +1,19 @@
 -- How the calls of a source or a sink end, and how often they fail (this project).
 use Rattle.std.specs.Prelude.{◌≡◌, ℕ, ◌+◌, ◌%◌, ◌^◌, List, take, Option, Result, Ok, Err}
 use Rattle.std.specs.Io.KnownBytes.{Appends}
-use Rattle.script_input.specs.declared.streams.End.{End}
-use Rattle.script_input.specs.declared.streams.End.TheVariants.{NotCalled, Moved, Nothing, Failed}
+use Rattle.script_input.specs.declared.streams.CallEnd.{CallEnd}
+use Rattle.script_input.specs.declared.streams.CallEnd.TheVariants.{NotCalled, Moved, Nothing, Failed}
 
 -- The last call answered an error.
-abbrev pub HasFailed : End → Type 0
+abbrev pub HasFailed : CallEnd → Type 0
 HasFailed last = last ≡ Failed
 
 -- The last call answered 0, for room or for bytes that weren't none.
-abbrev pub GaveNothing : End → Type 0
+abbrev pub GaveNothing : CallEnd → Type 0
 GaveNothing last = last ≡ Nothing
 
 -- The last call was a write that failed, or took none of the bytes that it was given.
-abbrev pub HasRefused : End → Type 0
+abbrev pub HasRefused : CallEnd → Type 0
 HasRefused NotCalled = ⊥
 HasRefused Moved = ⊥
 HasRefused Nothing = Unit {0}

@@ -1,14 +1,14 @@
 -- A reader or a writer that is watched (this project).
 use Rattle.std.specs.Prelude.{ℕ, List, Option}
 use Rattle.script_input.specs.declared.watched.Watched.{Watched}
-use Rattle.script_input.specs.declared.streams.End.{End}
+use Rattle.script_input.specs.declared.streams.CallEnd.{CallEnd}
 
 -- The reader or the writer.
 abbrev pub inner_of : {T : Type 0} → Watched T → T
 inner_of w = w.inner
 
 -- How its last call ended.
-abbrev pub last_of : {T : Type 0} → Watched T → End
+abbrev pub last_of : {T : Type 0} → Watched T → CallEnd
 last_of w = w.last
 
 -- How many of its calls failed, or took none of their bytes.

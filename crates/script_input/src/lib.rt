@@ -10,7 +10,7 @@ mod window;
 
 pub use fault::{ScriptFault, write_out};
 pub use reader::{LineReader, NextLine};
-pub use streams::{CallFailed, End, Sink, Source};
+pub use streams::{CallEnd, CallFailed, Sink, Source};
 pub use watched::Watched;
 pub use window::PIECE;
 pub use work_faults::WorkFault;

@@ -2,7 +2,7 @@
 
 ghost use Rattle.std.specs.Prelude.{◌≡◌, ◌≢◌, ℕ, List, ◌+◌, ◌-◌, ◌<◌, ◌≤◌, ◌⊎◌, ◌↔◌, [], ◌∷◌, ◌++◌, length, take, drop, All, true, false, IfOk, OnOk, OnErr, IfErr, IfNone, IfSome, IsTrue, Option, Ok};
 ghost use Rattle.field_bounds.specs.Header.{schema_of};
-ghost use Rattle.script_input.specs.declared.streams.End.{End};
+ghost use Rattle.script_input.specs.declared.streams.CallEnd.{CallEnd};
 ghost use Rattle.script_input.specs.Streams.{HasFailed};
 ghost use Rattle.script_input.specs.Faults.{CountsReads, TellsHeader};
 
@@ -149,7 +149,7 @@ impl LineReader {
     #[inline(never)]
     fn find_end(&mut self) -> Option<NextLine>
         requires none { pending self.old ≡ [] }
-        ensures next { (from to : Option (List ℕ)) (last : End) (given : List (List ℕ)) (most : ℕ)
+        ensures next { (from to : Option (List ℕ)) (last : CallEnd) (given : List (List ℕ)) (most : ℕ)
             → Reads from to last self.old given
             → Finds from to last given self.old self.new most (Ok result) }
         ensures due { IfNone result (IsDue self.new) }
@@ -192,7 +192,7 @@ impl LineReader {
             ≡ take count (pending self.old) ++ 10 ∷ drop (count + 1) (pending self.old) }
         requires whole { ending ≡ 0 → count ≡ length (pending self.old) }
         requires most { most ≤ 65536 }
-        ensures next { (from to : Option (List ℕ)) (last : End) (given : List (List ℕ))
+        ensures next { (from to : Option (List ℕ)) (last : CallEnd) (given : List (List ℕ))
             → Reads from to last self.old given
             → Finds from to last given self.old self.new most result }
         ensures fault { IfErr result (λ fault. fault ≡ ScriptFault.TooLong) }
@@ -234,7 +234,7 @@ impl LineReader {
         requires most { most ≤ 65536 }
 
         // What comes next in the lines of what was read, behind those that were given.
-        ensures next { (from to : Option (List ℕ)) (last : End) (given : List (List ℕ))
+        ensures next { (from to : Option (List ℕ)) (last : CallEnd) (given : List (List ℕ))
             → Reads from to last self.old given
             → Finds from to last given self.old self.new most result }
 

@@ -3,12 +3,12 @@
 ghost use Rattle.std.specs.Prelude.{◌≡◌, ◌<◌, ℕ, List, length, Option, IfOk, OnOk, OnErr};
 ghost use Rattle.std.specs.Io.{ReadsAtMost, WritesAtMost};
 ghost use Rattle.std.specs.Io.KnownBytes.{Appends, ReadConsumes, WriteAppends};
-ghost use Rattle.script_input.specs.declared.streams.End.{End};
+ghost use Rattle.script_input.specs.declared.streams.CallEnd.{CallEnd};
 ghost use Rattle.script_input.specs.Streams.{HasFailed, GaveNothing, HasRefused, Counts, AppendsPrefix};
 
 /// How a call of a source or a sink ended.
 #[derive(Clone, Copy, Debug, PartialEq, Eq)]
-pub enum End {
+pub enum CallEnd {
     /// There was no call yet.
     NotCalled,
     /// Bytes were moved, or there were none to move: a read had no room, a write had no bytes.
@@ -34,7 +34,7 @@ pub trait Source {
     ghost bytes: { Self → Option (List ℕ) };
 
     /// How the last read ended.
-    ghost last: { Self → End };
+    ghost last: { Self → CallEnd };
 
     /// How many reads failed.
     ghost failures: { Self → ℕ };
@@ -61,7 +61,7 @@ pub trait Sink {
     ghost bytes: { Self → Option (List ℕ) };
 
     /// How the last write ended.
-    ghost last: { Self → End };
+    ghost last: { Self → CallEnd };
 
     /// How many writes were refused.
     ghost refusals: { Self → ℕ };

@@ -4,7 +4,7 @@ ghost use Rattle.std.specs.Prelude.{◌≡◌};
 ghost use Rattle.script_input.specs.Streams.{one_more};
 ghost use Rattle.script_input.specs.Watched.{inner_of, last_of, failures_of, known_bytes};
 
-use crate::streams::{CallFailed, End, Sink, Source};
+use crate::streams::{CallEnd, CallFailed, Sink, Source};
 use std::io::{Read, Write};
 
 /// A reader or a writer of std, how its last call ended, and how many calls failed or took none of
@@ -17,7 +17,7 @@ use std::io::{Read, Write};
 #[derive(Drop)]
 pub struct Watched<T> {
     inner: T,
-    last: End,
+    last: CallEnd,
     failures: u64,
 }
 
@@ -25,18 +25,18 @@ impl<T> Watched<T> {
     /// A reader or a writer before its first call. Costs no memory.
     pub fn new(inner: T) -> Watched<T>
         ensures inner { inner_of result ≡ inner }
-        ensures last { last_of result ≡ End.NotCalled }
+        ensures last { last_of result ≡ CallEnd.NotCalled }
         ensures failures { failures_of result ≡ 0 }
     {
         Watched {
             inner,
-            last: End::NotCalled,
+            last: CallEnd::NotCalled,
             failures: 0,
         }
     }
 
     /// How the last call ended. Costs no memory.
-    pub fn last(&self) -> End
+    pub fn last(&self) -> CallEnd
         ensures last { result ≡ last_of self.now }
     {
         self.last
@@ -58,7 +58,7 @@ impl<T> Watched<T> {
     }
 
     // Notes that a call failed or took none of its bytes.
-    fn fail(&mut self, last: End) -> CallFailed
+    fn fail(&mut self, last: CallEnd) -> CallFailed
         ensures inner { self.new.inner ≡ self.old.inner }
         ensures last { self.new.last ≡ last }
         ensures failures { self.new.failures ≡ one_more self.old.failures }
@@ -79,14 +79,14 @@ impl<R: Read> Source for Watched<R> {
     fn read(&mut self, buffer: &mut [u8]) -> Result<usize, CallFailed> {
         match self.inner.read(buffer) {
             Ok(0) if !buffer.is_empty() => {
-                self.last = End::Nothing;
+                self.last = CallEnd::Nothing;
                 Ok(0)
             }
             Ok(count) => {
-                self.last = End::Moved;
+                self.last = CallEnd::Moved;
                 Ok(count)
             }
-            Err(_) => Err(self.fail(End::Failed)),
+            Err(_) => Err(self.fail(CallEnd::Failed)),
         }
     }
 }
@@ -100,12 +100,12 @@ impl<W: Write> Sink for Watched<W> {
 
     fn write(&mut self, piece: &[u8]) -> Result<usize, CallFailed> {
         match self.inner.write(piece) {
-            Ok(0) if !piece.is_empty() => Err(self.fail(End::Nothing)),
+            Ok(0) if !piece.is_empty() => Err(self.fail(CallEnd::Nothing)),
             Ok(count) => {
-                self.last = End::Moved;
+                self.last = CallEnd::Moved;
                 Ok(count)
             }
-            Err(_) => Err(self.fail(End::Failed)),
+            Err(_) => Err(self.fail(CallEnd::Failed)),
         }
     }
 }

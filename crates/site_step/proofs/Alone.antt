@@ -16,7 +16,7 @@ use Rattle.kept_records.specs.Keeping.{Appends}
 use Rattle.kept_records.specs.Stands.{max_behind}
 use Rattle.kept_state.specs.Keeps.{record_at}
 use Rattle.log_replay.specs.Standing.{TakesIn}
-use Rattle.site_step.specs.declared.accounts.Accounts.{Accounts}
+use Rattle.site_step.specs.declared.accounts.SiteAccounts.{SiteAccounts}
 use Rattle.site_step.specs.declared.extent.Extent.{Extent}
 use Rattle.site_step.specs.Site.{SiteValue, here, entry_of}
 use Rattle.site_step.specs.State.{IsSoundSite, before_taking_in, one_record_longer}
@@ -24,7 +24,7 @@ use Rattle.site_step.specs.Resuming.{all_bytes}
 use Rattle.site_step.proofs.Calls.{none_due, wrote, unsure}
 use Rattle.site_step.proofs.Ends.{Ends}
 
-module _ {v w : SiteValue} {up : Bool} {extent : Extent} {a : Accounts} (was : IsSoundSite v up extent a) (is : v ≡ w) (c : Command)
+module _ {v w : SiteValue} {up : Bool} {extent : Extent} {a : SiteAccounts} (was : IsSoundSite v up extent a) (is : v ≡ w) (c : Command)
     (none : first (refusals (here w) c) ≡ None) (told : writes (here w) c ≡ true) (kept : Record) (kept_is : kept ≡ record_at (here w) c)
     (undue : nat_le max_behind (extent.behind + 1) ≡ false) where
   abbrev Then : List Entry → List ℕ → ℕ → Option Mishap → Option ℕ → SiteValue
@@ -34,7 +34,7 @@ module _ {v w : SiteValue} {up : Bool} {extent : Extent} {a : Accounts} (was : I
   alone : text kept ≡ text kept ++ []
   alone = sym (append-nil (text kept))
 
-  pub wrote_alone : (r : Reply) (old : List ℕ) → r ≡ answer (here w) c → {h : List Entry} {b : Accounts} {bytes : List ℕ} {failed : ℕ}
+  pub wrote_alone : (r : Reply) (old : List ℕ) → r ≡ answer (here w) c → {h : List Entry} {b : SiteAccounts} {bytes : List ℕ} {failed : ℕ}
       {left : Option Mishap} {size : ℕ} {later : Extent}
       → v.bytes ≡ all_bytes v.gone old
       → TakesIn v.schema (before_taking_in a kept).standing kept true b.standing → b.journal ≡ (before_taking_in a kept).journal

@@ -44,7 +44,7 @@ use Rattle.kept_records.specs.ReadingBack.{PartsAt, AreBehind}
 use Rattle.kept_state.proofs.Written.{written_in_range}
 use Rattle.log_replay.specs.declared.standing.Standing.{Standing}
 use Rattle.log_replay.specs.Standing.{IsStandingFor}
-use Rattle.site_step.specs.declared.accounts.Accounts.{Accounts}
+use Rattle.site_step.specs.declared.accounts.SiteAccounts.{SiteAccounts}
 use Rattle.site_step.specs.declared.extent.Extent.{Extent}
 use Rattle.site_step.specs.Site.{SiteValue, base_of, here, entry_of, HoldsLog}
 use Rattle.site_step.specs.State.{StandsOn, IsSoundSite, counted_from, CanSettle, CanCarry, is_carried, after_settling, with_rights, before_taking_in, one_record_longer}
@@ -68,7 +68,7 @@ use Rattle.site_step.proofs.Restarts.{held_log, ends_failed, ends_full, few_behi
 pub grew : {new mid old : List Entry} {e : Entry} → new ≡ mid ++ e ∷ [] → mid ≡ old → reverse new ≡ e ∷ reverse old
 grew {mid = mid} {e = e} pushed same = ap reverse pushed ∙ reverse-append mid (e ∷ []) ∙ ap (λ (h : List Entry). e ∷ reverse h) same
 
-module _ {v w : SiteValue} {up : Bool} {extent : Extent} {a : Accounts} (was : IsSoundSite v up extent a) (is : v ≡ w) where
+module _ {v w : SiteValue} {up : Bool} {extent : Extent} {a : SiteAccounts} (was : IsSoundSite v up extent a) (is : v ≡ w) where
   -- what is known of the site as its callers see it, told of the site as it is kept
   none_of : (c : Command) → first (refusals (here w) c) ≡ None → first (refusals (here v) c) ≡ None
   none_of c none = subst (λ (x : SiteValue). first (refusals (here x) c) ≡ None) (sym is) none
@@ -77,7 +77,7 @@ module _ {v w : SiteValue} {up : Bool} {extent : Extent} {a : Accounts} (was : I
   told_of c told = subst (λ (x : SiteValue). writes (here x) c ≡ true) (sym is) told
 
   -- what a call leaves, told of the site as its callers see it
-  returned : (c : Command) (r : Reply) (x : SiteValue) (u : Bool) (n : Extent) (b : Accounts) → Ends v c r x u n b → Ends w c r x u n b
+  returned : (c : Command) (r : Reply) (x : SiteValue) (u : Bool) (n : Extent) (b : SiteAccounts) → Ends v c r x u n b → Ends w c r x u n b
   returned c r x u n b ends = subst (λ (y : SiteValue). Ends y c r x u n b) is ends
 
   abbrev After : List Entry → SiteValue
@@ -177,7 +177,7 @@ module _ {v w : SiteValue} {up : Bool} {extent : Extent} {a : Accounts} (was : I
       can_settle v.schema v.site.0 (base_of v) v.history a was.run
       (read (up_there (here v) c (carried_no_restart c plain) (none_of c none))) c (none_of c none)
 
-  pub answers : (c : Command) (r : Reply) {h : List Entry} {b : Accounts} → first (refusals (here w) c) ≡ None → is_carried c ≡ true
+  pub answers : (c : Command) (r : Reply) {h : List Entry} {b : SiteAccounts} → first (refusals (here w) c) ≡ None → is_carried c ≡ true
       → writes (here w) c ≡ false → r ≡ answer (here w) c
       → b ≡ after_settling a c → h ≡ entry_of v c r ∷ v.history → Ends w c r (After h) up extent b
   answers c r {h = h} {b = b} none plain silent owed did past =
@@ -185,7 +185,7 @@ module _ {v w : SiteValue} {up : Bool} {extent : Extent} {a : Accounts} (was : I
       let there = up_there (here v) c n (none_of c none) in
       let quiet = subst (λ (x : SiteValue). writes (here x) c ≡ false) (sym is) silent in
       returned c r (After h) up extent b
-      (subst (λ (x : Accounts). Ends v c r (After h) up extent x) (sym did)
+      (subst (λ (x : SiteAccounts). Ends v c r (After h) up extent x) (sym did)
       (ends_answered v up extent a was c (after_settling a c) r h (subst (λ (x : SiteValue). r ≡ answer (here x) c) (sym is) owed) past n
       (none_of c none) quiet
       (stands_settled v.schema v.site.0 (base_of v) v.history a was.run (read there) was.records (was.stands there) v.site c plain quiet
@@ -301,7 +301,7 @@ module _ {v w : SiteValue} {up : Bool} {extent : Extent} {a : Accounts} (was : I
     few_written past based e counted parts =
         few_counted past based e counted parts (omega (arith, (reached v up extent a was c unrefused writing fits).count, few_records v up extent a was))
 
-    pub wrote : (r : Reply) (kept : Record) (due : Option SummaryValue) (old : List ℕ) {h : List Entry} {b : Accounts} {bytes : List ℕ} {failed : ℕ}
+    pub wrote : (r : Reply) (kept : Record) (due : Option SummaryValue) (old : List ℕ) {h : List Entry} {b : SiteAccounts} {bytes : List ℕ} {failed : ℕ}
         {left : Option Mishap} {size : ℕ} {later : Extent}
         → v.bytes ≡ all_bytes v.gone old
         → kept ≡ record_at (here w) c → r ≡ answer (here w) c
@@ -377,7 +377,7 @@ module _ {v w : SiteValue} {up : Bool} {extent : Extent} {a : Accounts} (was : I
     begins {h = h} {j = j} row past =
         let begun : ◌≡◌ {A = Reply} (Begun t) (answer (here v) Begin) =
         ap (λ (x : TxnId). Begun x) (next_is v.schema v.site.0 (base_of v) v.history a was.run (read stood)) in
-        let more : List Row → Accounts = λ j. record a { journal = j; last = a.last + 1 } in
+        let more : List Row → SiteAccounts = λ j. record a { journal = j; last = a.last + 1 } in
         let b = more (a.journal ++ (t, []) ∷ []) in
         returned Begin (Begun t) (After h) up extent (more j)
         (subst (λ (x : List Row). Ends v Begin (Begun t) (After h) up extent (more x)) (sym row)
@@ -409,7 +409,7 @@ module _ {v w : SiteValue} {up : Bool} {extent : Extent} {a : Accounts} (was : I
         → j ≡ rows_with txn e a.journal → h ≡ entry_of v ask Granted ∷ v.history
         → Ends w ask Granted (After h) up extent (record (with_rights rows a) { journal = j })
     grants {h = h} {rows = rows} {j = j} took row past =
-        let more : List FieldRights → List Row → Accounts = λ x y. record (with_rights x a) { journal = y } in
+        let more : List FieldRights → List Row → SiteAccounts = λ x y. record (with_rights x a) { journal = y } in
         returned ask Granted (After h) up extent (more rows j)
         (subst (λ (x : List FieldRights). Ends v ask Granted (After h) up extent (more x j)) (sym took)
         (subst (λ (y : List Row). Ends v ask Granted (After h) up extent (more (by_escrow after_take a.standing.rights e) y)) (sym row)
@@ -539,7 +539,7 @@ module _ {v w : SiteValue} {up : Bool} {extent : Extent} {a : Accounts} (was : I
       )
 
   pub restarts : (standing : Standing) (behind : List Record) (epoch turns size behinds : ℕ)
-      (last : Last) {h : List Entry} {b : Accounts} {more : ℕ} {old bytes : List ℕ} {failed : ℕ} {left : Option Mishap} {later : Extent}
+      (last : Last) {h : List Entry} {b : SiteAccounts} {more : ℕ} {old bytes : List ℕ} {failed : ℕ} {left : Option Mishap} {later : Extent}
       → v.bytes ≡ all_bytes v.gone old
       → Stood standing epoch turns size was.rest old bytes left failed behind
       → TakesIn v.schema standing (records.Restart epoch) true b.standing → b.journal ≡ [] → b.last ≡ 0 → last ≡ found_by v.doubt behind

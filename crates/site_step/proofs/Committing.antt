@@ -20,7 +20,7 @@ use Rattle.kept_records.specs.Keeping.{Appends}
 use Rattle.kept_records.specs.Stands.{plain, max_behind}
 use Rattle.kept_state.specs.Keeps.{record_at}
 use Rattle.log_replay.specs.Standing.{TakesIn}
-use Rattle.site_step.specs.declared.accounts.Accounts.{Accounts}
+use Rattle.site_step.specs.declared.accounts.SiteAccounts.{SiteAccounts}
 use Rattle.site_step.specs.declared.extent.Extent.{Extent}
 use Rattle.site_step.specs.Site.{SiteValue, here, entry_of}
 use Rattle.site_step.specs.Resuming.{all_bytes}
@@ -29,7 +29,7 @@ use Rattle.site_step.proofs.Calls.{commit_escrows, commit_count, record_fits, ca
 use Rattle.site_step.proofs.Ends.{Ends}
 use Rattle.site_step.proofs.Spending.{spends}
 
-module _ {v w : SiteValue} {up : Bool} {extent : Extent} {a : Accounts} (was : IsSoundSite v up extent a) (is : v ≡ w) (txn : TxnId)
+module _ {v w : SiteValue} {up : Bool} {extent : Extent} {a : SiteAccounts} (was : IsSoundSite v up extent a) (is : v ≡ w) (txn : TxnId)
     (none : first (refusals (here w) (Commit txn)) ≡ None) (es : List Escrow) (are : es ≡ escrows_at txn a.journal) (some : 0 < length es) where
   abbrev kept : Record
   kept = records.Commit txn es
@@ -60,7 +60,7 @@ module _ {v w : SiteValue} {up : Bool} {extent : Extent} {a : Accounts} (was : I
   alone : text kept ≡ text kept ++ []
   alone = sym (append-nil (text kept))
 
-  pub commits : nat_le max_behind (extent.behind + 1) ≡ false → (old : List ℕ) {h : List Entry} {b : Accounts} {bytes : List ℕ} {failed : ℕ}
+  pub commits : nat_le max_behind (extent.behind + 1) ≡ false → (old : List ℕ) {h : List Entry} {b : SiteAccounts} {bytes : List ℕ} {failed : ℕ}
       {left : Option Mishap} {size : ℕ} {later : Extent}
       → v.bytes ≡ all_bytes v.gone old
       → b ≡ after_spending txn a
@@ -70,7 +70,7 @@ module _ {v w : SiteValue} {up : Bool} {extent : Extent} {a : Accounts} (was : I
       → Ends w (Commit txn) Committed (Then h (all_bytes v.gone bytes) failed left v.doubt) up later b
   commits undue old {h = h} {b = b} {bytes = bytes} {failed = failed} {left = left} {size = size} {later =
       later} whole spent added fate past long more =
-      subst (λ (x : Accounts). Ends w (Commit txn) Committed (Then h (all_bytes v.gone bytes) failed left v.doubt) up later x) (sym spent)
+      subst (λ (x : SiteAccounts). Ends w (Commit txn) Committed (Then h (all_bytes v.gone bytes) failed left v.doubt) up later x) (sym spent)
       (wrote was is (Commit txn) none commit_told Committed kept None old whole kept_is refl
       (none_due was is (Commit txn) none commit_told kept undue)
       (subst (λ (xs : List Escrow). CanCarry v.schema a (records.Commit txn xs) →

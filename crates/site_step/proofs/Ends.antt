@@ -19,7 +19,7 @@ use Rattle.kept_state.specs.Keeps.{Keeps, adds}
 use Rattle.kept_state.specs.Doubt.{IsDoubt, found_of}
 use Rattle.kept_state.specs.Luck.{doubt_after, record_length}
 use Rattle.kept_state.proofs.Adding.{adds_answer, keeps_length}
-use Rattle.site_step.specs.declared.accounts.Accounts.{Accounts}
+use Rattle.site_step.specs.declared.accounts.SiteAccounts.{SiteAccounts}
 use Rattle.site_step.specs.declared.extent.Extent.{Extent}
 use Rattle.site_step.specs.Site.{SiteValue, base_of, here, entry_of, Holds, Finds, Applies}
 use Rattle.site_step.specs.Replaying.{downs_since, downs_before}
@@ -29,7 +29,7 @@ use Rattle.site_step.proofs.Settling.{answer_settles, refused_no_restart, refuse
 use Rattle.site_step.proofs.Standing.{stands_refused}
 
 -- a site is sound after an entry, which is what the call says
-pub record Ends (v : SiteValue) (c : Command) (r : Reply) (w : SiteValue) (up : Bool) (extent : Extent) (a : Accounts) : Type 0 where
+pub record Ends (v : SiteValue) (c : Command) (r : Reply) (w : SiteValue) (up : Bool) (extent : Extent) (a : SiteAccounts) : Type 0 where
   pub sound : IsSoundSite w up extent a
   pub applies : Applies v c r w
 
@@ -78,7 +78,7 @@ pub none_in_doubt : (kept : Bool) (o : List Entry) (rs : List Record) (doubt : O
 none_in_doubt kept o rs None none is = refl
 none_in_doubt kept o rs (Some n) none is = absurd (omega (arith, none, is.0))
 
-module _ (v : SiteValue) (up : Bool) (extent : Extent) (a : Accounts) (was : IsSoundSite v up extent a) where
+module _ (v : SiteValue) (up : Bool) (extent : Extent) (a : SiteAccounts) (was : IsSoundSite v up extent a) where
   abbrev base : Base
   base = base_of v
 
@@ -158,7 +158,7 @@ module _ (v : SiteValue) (up : Bool) (extent : Extent) (a : Accounts) (was : IsS
   abbrev After : Command → List Entry
   After c = entry_of v c (answer at c) ∷ v.history
 
-  answered : (c : Command) (b : Accounts) → is_restart c ≡ false → first (refusals at c) ≡ None → writes at c ≡ false
+  answered : (c : Command) (b : SiteAccounts) → is_restart c ≡ false → first (refusals at c) ≡ None → writes at c ≡ false
       → StandsOn v.schema v.site.0 base (After c) was.records b
       → Ends v c (answer at c) (record v { history = After c }) up extent b
   answered c b n none silent stands =
@@ -229,7 +229,7 @@ module _ (v : SiteValue) (up : Bool) (extent : Extent) (a : Accounts) (was : IsS
         };
       }
 
-  pub ends_answered : (c : Command) (b : Accounts) (r : Reply) (h : List Entry) → r ≡ answer at c → h ≡ entry_of v c r ∷ v.history
+  pub ends_answered : (c : Command) (b : SiteAccounts) (r : Reply) (h : List Entry) → r ≡ answer at c → h ≡ entry_of v c r ∷ v.history
       → is_restart c ≡ false → first (refusals at c) ≡ None
       → writes at c ≡ false → StandsOn v.schema v.site.0 base (After c) was.records b → Ends v c r (record v { history = h }) up extent b
   ends_answered c b r h owed past n none silent stands =

@@ -17,7 +17,7 @@ use Rattle.kept_state.proofs.Sure.{keeps_up}
 use Rattle.log_replay.specs.Standing.{IsOther}
 use Rattle.kept_records.specs.Stands.{plain}
 use Rattle.kept_records.proofs.Summaries.{own_same, plain_same}
-use Rattle.site_step.specs.declared.accounts.Accounts.{Accounts}
+use Rattle.site_step.specs.declared.accounts.SiteAccounts.{SiteAccounts}
 use Rattle.site_step.specs.declared.extent.Extent.{Extent}
 use Rattle.site_step.specs.Site.{SiteValue, base_of}
 use Rattle.site_step.specs.State.{journal_of, IsSoundSite}
@@ -38,14 +38,14 @@ pub record Holds (schema : SchemaValue) (s : ℕ) (base : Base) (es : List Effec
   pub accepted : (r f : ℕ) (k : Kind) → IsOther schema s r f → accepted_at ledger r f k ≡ total_accepted base r f k es
   pub site : ledger.site ≡ s
 
-pub record Reads (schema : SchemaValue) (s : ℕ) (base : Base) (o : List Entry) (a : Accounts) : Type 0 where
+pub record Reads (schema : SchemaValue) (s : ℕ) (base : Base) (o : List Entry) (a : SiteAccounts) : Type 0 where
   pub matches : Matches schema base (effects base false o) a.standing.rights a.journal
   pub holds : Holds schema s base (effects base false o) a.standing.ledger
   pub epoch : a.standing.epoch ≡ epoch_of base o
   pub last : a.last ≡ count_since is_begun_reply o
 
 -- what is kept is what was done
-pub reads : (v : SiteValue) (up : Bool) (extent : Extent) (a : Accounts) → IsSoundSite v up extent a → is_up (base_of v) v.history ≡ true
+pub reads : (v : SiteValue) (up : Bool) (extent : Extent) (a : SiteAccounts) → IsSoundSite v up extent a → is_up (base_of v) v.history ≡ true
     → Reads v.schema v.site.0 (base_of v) v.history a
 reads v up extent a was there =
     let st = was.stands there in

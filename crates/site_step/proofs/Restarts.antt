@@ -44,7 +44,7 @@ use Rattle.kept_state.proofs.Sure.{keeps_sure}
 use Rattle.kept_state.proofs.Doubt.{doubt_restart, found_is_kept}
 use Rattle.log_replay.specs.declared.standing.Standing.{Standing}
 use Rattle.log_replay.specs.Standing.{IsStandingFor, TakesIn}
-use Rattle.site_step.specs.declared.accounts.Accounts.{Accounts}
+use Rattle.site_step.specs.declared.accounts.SiteAccounts.{SiteAccounts}
 use Rattle.site_step.specs.declared.extent.Extent.{Extent}
 use Rattle.site_step.specs.Site.{SiteValue, base_of, here, entry_of, mishap_of, luck_under, owed_under, Holds, Finds, IsExact, Applies}
 use Rattle.site_step.specs.State.{row_of, StandsOn, IsSoundSite, ReachesAll}
@@ -137,7 +137,7 @@ length_push rs r = omega (arith, length-append rs (r ∷ []))
 greatest_next : (rs : List Record) → greatest (rs ++ next_restart rs ∷ []) ≡ greatest rs + 1
 greatest_next rs = greatest_push rs (next_restart rs) ∙ omega arith
 
-module _ (v : SiteValue) (up : Bool) (extent : Extent) (a : Accounts) (was : IsSoundSite v up extent a) where
+module _ (v : SiteValue) (up : Bool) (extent : Extent) (a : SiteAccounts) (was : IsSoundSite v up extent a) where
   abbrev base : Base
   base = base_of v
 
@@ -183,7 +183,7 @@ module _ (v : SiteValue) (up : Bool) (extent : Extent) (a : Accounts) (was : IsS
   abbrev Failing : List Entry
   Failing = entry_of v Restart StillDown ∷ v.history
 
-  module _ (b : Accounts) (turns : Option ℕ) (replayed_ : ℕ) (bytes : List ℕ) (left : Option Mishap)
+  module _ (b : SiteAccounts) (turns : Option ℕ) (replayed_ : ℕ) (bytes : List ℕ) (left : Option Mishap)
       (failing : FailsOver schema s all turns was.rest v.bytes bytes v.foretold left v.failed (v.failed + 1))
       (told_ : replayed_ ≡ unwrap_or turns v.replayed) where
     abbrev down : SiteValue
@@ -315,7 +315,7 @@ module _ (v : SiteValue) (up : Bool) (extent : Extent) (a : Accounts) (was : IsS
     ends_down : Ends v Restart StillDown down false extent b
     ends_down = failed failing.leaves.0 failing.leaves.1
 
-  pub ends_failed : (b : Accounts) (turns : Option ℕ) (replayed_ : ℕ) (bytes : List ℕ) (failed : ℕ) (left : Option Mishap) (h : List Entry)
+  pub ends_failed : (b : SiteAccounts) (turns : Option ℕ) (replayed_ : ℕ) (bytes : List ℕ) (failed : ℕ) (left : Option Mishap) (h : List Entry)
       → h ≡ Failing
       → FailsOver schema s all turns was.rest v.bytes bytes v.foretold left v.failed failed
       → replayed_ ≡ unwrap_or turns v.replayed
@@ -421,7 +421,7 @@ module _ (v : SiteValue) (up : Bool) (extent : Extent) (a : Accounts) (was : IsS
   abbrev lines : List Record
   lines = next_piece schema s all
 
-  module _ (standing : Standing) (for_ : IsStandingFor schema s all standing) (b : Accounts)
+  module _ (standing : Standing) (for_ : IsStandingFor schema s all standing) (b : SiteAccounts)
       (took : TakesIn schema standing (next_restart all) true b.standing) (open_ : b.journal ≡ []) (last_is_ : b.last ≡ 0) where
     abbrev Anew : ℕ → List Entry
     Anew epoch = entry_of v Restart (Restarted epoch last) ∷ v.history
@@ -589,7 +589,7 @@ module _ (v : SiteValue) (up : Bool) (extent : Extent) (a : Accounts) (was : IsS
       → extent.count + length (plain found_) ≡ length rs
   few_behind is found_ behind = count_more extent v.gone was.held all was.parts was.reaches found_ (stands_behind is found_ behind)
 
-  pub ends_restarted : (standing : Standing) (found_ : List Record) (epoch turns size behind_ : ℕ) (b : Accounts) (old bytes : List ℕ)
+  pub ends_restarted : (standing : Standing) (found_ : List Record) (epoch turns size behind_ : ℕ) (b : SiteAccounts) (old bytes : List ℕ)
       (failed : ℕ) (left : Option Mishap) (r : Reply) (more : ℕ) (h : List Entry)
       → v.bytes ≡ all_bytes v.gone old
       → IsStandingFor schema s all standing → StandsOver schema s was.held all epoch turns size was.rest bytes v.foretold left v.failed failed

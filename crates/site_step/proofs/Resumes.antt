@@ -28,7 +28,7 @@ use Rattle.log_replay.specs.Standing.{Stands, IsStandingFor}
 use Rattle.log_replay.specs.Resuming.{MayFollowNext, IsEnd}
 use Rattle.site_step.specs.Site.{mishap_left}
 use Rattle.site_step.specs.Resuming.{HoldsBehind, Leaves, next_restart, next_piece, all_bytes, IsReplayed, FailsOver, StandsOver, ResumesOver}
-use Rattle.site_step.specs.declared.site.restart.Resumed.{Resumed}
+use Rattle.site_step.specs.declared.site.restart.RestartEnd.{RestartEnd}
 use Rattle.site_step.proofs.Holding.{piece_fits, added_all, leaves_by, leaves_none}
 use Rattle.site_step.proofs.Prefixes.{log_of, last_behind, cuts_behind, cut_fate_behind}
 
@@ -185,7 +185,7 @@ read_stays log (Some Cut) left fate = fate.1
 read_stays log (Some (Append n)) left fate = fate.1
 
 -- a restart over a medium that reading left as it was
-pub resumes_from : (schema : SchemaValue) (s place : ℕ) (gone held : List Record) (rest : List ℕ) (resumed : Resumed)
+pub resumes_from : (schema : SchemaValue) (s place : ℕ) (gone held : List Record) (rest : List ℕ) (resumed : RestartEnd)
     (old mid new : List ℕ) (foretold between left : Option Mishap) (before middle after : ℕ)
     → mid ≡ old → between ≡ foretold → middle ≡ before → ResumesOver schema s place gone held rest resumed mid new between left middle after
     → ResumesOver schema s place gone held rest resumed old new foretold left before after

@@ -17,7 +17,7 @@ use Rattle.kept_records.specs.Keeping.{IsKept}
 use Rattle.kept_records.specs.ReadingBack.{told_length}
 use Rattle.kept_records.specs.Stands.{plain}
 use Rattle.kept_records.proofs.Lines.{same_log}
-use Rattle.site_step.specs.declared.accounts.Accounts.{Accounts}
+use Rattle.site_step.specs.declared.accounts.SiteAccounts.{SiteAccounts}
 use Rattle.site_step.specs.declared.extent.Extent.{Extent}
 use Rattle.site_step.specs.Site.{SiteValue}
 use Rattle.site_step.specs.State.{IsSoundSite, ReachesAll}
@@ -88,7 +88,7 @@ up_to_latest rs txn has = folds_up rs (record { epoch = 0; number = 0 }) txn has
 -- ---- a site that is up
 
 -- what is held of it
-module _ (v : SiteValue) (up : Bool) (extent : Extent) (a : Accounts) (was : IsSoundSite v up extent a) (old : List ℕ)
+module _ (v : SiteValue) (up : Bool) (extent : Extent) (a : SiteAccounts) (was : IsSoundSite v up extent a) (old : List ℕ)
     (whole : v.bytes ≡ all_bytes v.gone old) where
   pub held_is : held_of v ≡ old
   held_is = ap (drop (length (flat_map text v.gone))) whole ∙ drop-append_seam (flat_map text v.gone) old
@@ -142,7 +142,7 @@ module _ (v : SiteValue) (up : Bool) (extent : Extent) (a : Accounts) (was : IsS
   pub none_goes : (keep : ℕ) → ((place : ℕ) → IsFrontEnd old keep place → ⊥) → (rs : List Record) → CanGo (held_of v) keep rs → ⊥
   none_goes keep none rs can = none (length (flat_map text rs)) (front_ends old keep rs (subst (λ (b : List ℕ). CanGo b keep rs) held_is can))
 
-module _ (v : SiteValue) (up : Bool) (extent : Extent) (a : Accounts) (was : IsSoundSite v up extent a) (old : List ℕ)
+module _ (v : SiteValue) (up : Bool) (extent : Extent) (a : SiteAccounts) (was : IsSoundSite v up extent a) (old : List ℕ)
     (whole : v.bytes ≡ all_bytes v.gone old) (plan : ShorteningValue) (is : IsShortening v plan) where
   abbrev stays : List Record
   stays = summary_record is.base ∷ is.behind

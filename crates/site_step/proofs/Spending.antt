@@ -16,7 +16,7 @@ use Rattle.escrow_journal.specs.Journal.{escrows_at}
 use Rattle.kept_records.specs.declared.record.Record.TheVariants as records
 use Rattle.log_replay.specs.Standing.{TakesIn}
 use Rattle.log_replay.proofs.StandingLaws.{free_taken, held_taken, takes_as, commit_taken}
-use Rattle.site_step.specs.declared.accounts.Accounts.{Accounts}
+use Rattle.site_step.specs.declared.accounts.SiteAccounts.{SiteAccounts}
 use Rattle.site_step.specs.State.{CanCarry, after_release, after_spending}
 
 same_amounts : (x y : Amounts) → x.free ≡ y.free → x.held ≡ y.held → x.cut ≡ y.cut → x ≡ y
@@ -57,7 +57,7 @@ taken_again rows es range held =
     ∙ cut_at-by_escrows (ending Aborted) (ending_keeps_cut Aborted) rows es range f k))
 
 -- so a commit is taken in
-pub spends : (schema : SchemaValue) (a : Accounts) (txn : TxnId) → CanCarry schema a (records.Commit txn (escrows_at txn a.journal))
+pub spends : (schema : SchemaValue) (a : SiteAccounts) (txn : TxnId) → CanCarry schema a (records.Commit txn (escrows_at txn a.journal))
     → TakesIn schema (after_release txn a).standing (records.Commit txn (escrows_at txn a.journal)) true (after_spending txn a).standing
 spends schema a txn can =
     let es = escrows_at txn a.journal in

@@ -36,7 +36,7 @@ use Rattle.kept_state.specs.Keeps.{record_at}
 use Rattle.log_replay.specs.Standing.{Stands, TakesIn}
 use Rattle.kept_records.proofs.Covering.{gift_parts, accept_parts, tighten_parts}
 use Rattle.log_replay.proofs.StandingLaws.{has_places, here_only, four_first, is_other, commit_on_fields, room_is}
-use Rattle.site_step.specs.declared.accounts.Accounts.{Accounts}
+use Rattle.site_step.specs.declared.accounts.SiteAccounts.{SiteAccounts}
 use Rattle.site_step.specs.Site.{end_command}
 use Rattle.site_step.specs.State.{SetsAside, StandsOn, with_rights, after_release, after_settling, before_taking_in, CanClose, CanSettle, CanCarry, is_carried}
 use Rattle.site_step.proofs.Reading.{Reads}
@@ -45,7 +45,7 @@ use Rattle.site_step.proofs.Matching.{ended, aside_begin, aside_grant, aside_end
 pub both_true : (a b : Bool) → a ≡ true → b ≡ true → (a && b) ≡ true
 both_true a b x y = rw (x, y) refl
 
-module _ (schema : SchemaValue) (s : ℕ) (base : Base) (o : List Entry) (a : Accounts) (run : IsRun schema s base o)
+module _ (schema : SchemaValue) (s : ℕ) (base : Base) (o : List Entry) (a : SiteAccounts) (run : IsRun schema s base o)
     (was : Reads schema s base o a) where
   abbrev es : List Effect
   es = effects base false o
@@ -380,7 +380,7 @@ module _ (schema : SchemaValue) (s : ℕ) (base : Base) (o : List Entry) (a : Ac
       can_carry c none w may = absurd (false≢true w)
 
       -- what took the record in stands on it
-      taken_stands : (fs : List Effect) (ready b : Accounts) (r : Record) → Stands schema s rs ready.standing
+      taken_stands : (fs : List Effect) (ready b : SiteAccounts) (r : Record) → Stands schema s rs ready.standing
           → SetsAside fs ready.standing.rights ready.journal
           → TakesIn schema ready.standing r true b.standing → b.journal ≡ ready.journal → Stands schema s (rs ++ r ∷ []) b.standing
           × SetsAside fs b.standing.rights b.journal
@@ -394,7 +394,7 @@ module _ (schema : SchemaValue) (s : ℕ) (base : Base) (o : List Entry) (a : Ac
             },
           )
 
-      pub stands_carried : (n : SiteNo) (c : Command) → first (refusals at c) ≡ None → writes at c ≡ true → (b : Accounts)
+      pub stands_carried : (n : SiteNo) (c : Command) → first (refusals at c) ≡ None → writes at c ≡ true → (b : SiteAccounts)
           → TakesIn schema (before_taking_in a (record_at at c)).standing (record_at at c) true b.standing
           → b.journal ≡ (before_taking_in a (record_at at c)).journal → b.last ≡ a.last
           → StandsOn schema s base (record { site = n; command = c; reply = answer at c } ∷ o) (rs ++ record_at at c ∷ []) b
@@ -418,7 +418,7 @@ module _ (schema : SchemaValue) (s : ℕ) (base : Base) (o : List Entry) (a : Ac
       stands_carried n c none w b took same last_is = absurd (false≢true w)
 
 -- an entry that has no effect
-pub stands_refused : (schema : SchemaValue) (s : ℕ) (base : Base) (o : List Entry) (rs : List Record) (a : Accounts)
+pub stands_refused : (schema : SchemaValue) (s : ℕ) (base : Base) (o : List Entry) (rs : List Record) (a : SiteAccounts)
     → StandsOn schema s base o rs a → (n : SiteNo) (c : Command) (x : Refusal)
     → StandsOn schema s base (record { site = n; command = c; reply = Refused x } ∷ o) rs a
 stands_refused schema s base o rs a st n c x =

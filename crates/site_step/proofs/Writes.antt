@@ -40,7 +40,7 @@ use Rattle.kept_state.proofs.Adding.{adds_answer}
 use Rattle.kept_state.proofs.Epochs.{greatest_noted}
 use Rattle.kept_state.proofs.Sure.{keeps_up}
 use Rattle.kept_state.proofs.Doubt.{record_is_note, doubt_new, found_is_kept}
-use Rattle.site_step.specs.declared.accounts.Accounts.{Accounts}
+use Rattle.site_step.specs.declared.accounts.SiteAccounts.{SiteAccounts}
 use Rattle.site_step.specs.declared.extent.Extent.{Extent}
 use Rattle.site_step.specs.Site.{SiteValue, base_of, here, entry_of, mishap_of, mishap_left, Holds, owed_under, Finds, IsExact}
 use Rattle.site_step.specs.Replaying.{downs_since, downs_before}
@@ -104,7 +104,7 @@ stands_as schema s as1 bs standing same st = record {
   epoch = st.epoch ∙ sym same.epoch;
 }
 
-module _ (v : SiteValue) (up : Bool) (extent : Extent) (a : Accounts) (was : IsSoundSite v up extent a) (c : Command)
+module _ (v : SiteValue) (up : Bool) (extent : Extent) (a : SiteAccounts) (was : IsSoundSite v up extent a) (c : Command)
     (none : first (refusals (here v) c) ≡ None) (told : writes (here v) c ≡ true)
     (fits : IsRecord (record_at (here v) c)) where
   abbrev base : Base
@@ -180,7 +180,7 @@ module _ (v : SiteValue) (up : Bool) (extent : Extent) (a : Accounts) (was : IsS
   abbrev After : List Entry
   After = entry_of v c (answer at c) ∷ v.history
 
-  module _ (b : Accounts) (bytes : List ℕ) (left : Option Mishap)
+  module _ (b : SiteAccounts) (bytes : List ℕ) (left : Option Mishap)
       (stands : StandsOn v.schema v.site.0 base After (was.records ++ note ∷ []) b) (grown : bytes ≡ v.bytes ++ flat_map text lines)
       (fate : AppendFate {E = Device} v.foretold v.bytes (flat_map text lines) (Ok tt) bytes left) where
     abbrev then_ : SiteValue
@@ -298,7 +298,7 @@ module _ (v : SiteValue) (up : Bool) (extent : Extent) (a : Accounts) (was : IsS
           };
         }
 
-  pub ends_wrote : (b : Accounts) (bytes : List ℕ) (failed : ℕ) (left : Option Mishap) (r : Reply) (h : List Entry) → r ≡ answer at c
+  pub ends_wrote : (b : SiteAccounts) (bytes : List ℕ) (failed : ℕ) (left : Option Mishap) (r : Reply) (h : List Entry) → r ≡ answer at c
       → h ≡ entry_of v c r ∷ v.history
       → StandsOn v.schema v.site.0 base After (was.records ++ note ∷ []) b → (bytes ≡ v.bytes ++ flat_map text lines) → failed ≡ v.failed
       → AppendFate {E = Device} v.foretold v.bytes (flat_map text lines) (Ok tt) bytes left
@@ -318,7 +318,7 @@ module _ (v : SiteValue) (up : Bool) (extent : Extent) (a : Accounts) (was : IsS
   abbrev Doubtful : List Entry
   Doubtful = entry_of v c Unsure ∷ v.history
 
-  module _ (b : Accounts) (bytes : List ℕ) (left : Option Mishap) (device : Device) (cut : IsCutShort v.bytes (flat_map text lines) bytes)
+  module _ (b : SiteAccounts) (bytes : List ℕ) (left : Option Mishap) (device : Device) (cut : IsCutShort v.bytes (flat_map text lines) bytes)
       (fate : AppendFate v.foretold v.bytes (flat_map text lines) (Err device) bytes left) where
     abbrev torn_ : SiteValue
     torn_ = record v { history = Doubtful; bytes = bytes; failed = v.failed + 1; foretold = left; doubt = Some extent.count }
@@ -432,7 +432,7 @@ module _ (v : SiteValue) (up : Bool) (extent : Extent) (a : Accounts) (was : IsS
     unsure : Ends v c Unsure torn_ false extent b
     unsure = doubted (nat_le (length (text note)) cut.0) (leaves cut.0 cut.1)
 
-  pub ends_unsure : (b : Accounts) (bytes : List ℕ) (failed : ℕ) (left : Option Mishap) (device : Device) (r : Reply) (h : List Entry)
+  pub ends_unsure : (b : SiteAccounts) (bytes : List ℕ) (failed : ℕ) (left : Option Mishap) (device : Device) (r : Reply) (h : List Entry)
       → r ≡ Unsure → h ≡ entry_of v c r ∷ v.history
       → IsCutShort v.bytes (flat_map text lines) bytes → failed ≡ v.failed + 1
       → AppendFate v.foretold v.bytes (flat_map text lines) (Err device) bytes left

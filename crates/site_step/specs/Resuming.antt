@@ -20,8 +20,8 @@ use Rattle.log_replay.specs.declared.standing.Standing.{Standing as StandingValu
 use Rattle.log_replay.specs.Standing.{IsStandingFor}
 use Rattle.site_step.specs.State.{starts_with_summary, BeginsHeld}
 use Rattle.site_step.specs.Site.{mishap_left}
-use Rattle.site_step.specs.declared.site.restart.Resumed.{Resumed}
-use Rattle.site_step.specs.declared.site.restart.Resumed.TheVariants.{Failed, NumbersFull, Standing}
+use Rattle.site_step.specs.declared.site.restart.RestartEnd.{RestartEnd}
+use Rattle.site_step.specs.declared.site.restart.RestartEnd.TheVariants.{Failed, NumbersFull, Standing}
 
 -- The bytes hold these records and behind them a rest in which no line ends; the records are lawful behind those that are
 -- gone, and where any are gone, a summary is the first that is held.
@@ -98,7 +98,7 @@ all_bytes gone bytes = flat_map text gone ++ bytes
 
 -- How a restart went over the records that are gone and those that are held, some of which stand behind the place that was
 -- looked at.
-abbrev pub ResumesOver : SchemaValue → ℕ → ℕ → List Record → List Record → List ℕ → Resumed → List ℕ → List ℕ → Option Mishap
+abbrev pub ResumesOver : SchemaValue → ℕ → ℕ → List Record → List Record → List ℕ → RestartEnd → List ℕ → List ℕ → Option Mishap
     → Option Mishap → ℕ → ℕ → Type 0
 ResumesOver schema s place gone held rest (Failed turns) old bytes foretold left before after =
     FailsOver schema s (gone ++ held) turns rest (all_bytes gone old) (all_bytes gone bytes) foretold left before after
@@ -119,7 +119,7 @@ pub record IsReplayed (schema : SchemaValue) (s : ℕ) (gone held : List Record)
   pub turns_are : turns ≡ since_summary (gone ++ held)
 
 -- How a restart went over the records that were replayed, where these were behind the place.
-abbrev pub ResumesAs : SchemaValue → StandingValue → ℕ → List Record → Resumed → List ℕ → List ℕ → Option Mishap → Option Mishap → ℕ → ℕ
+abbrev pub ResumesAs : SchemaValue → StandingValue → ℕ → List Record → RestartEnd → List ℕ → List ℕ → Option Mishap → Option Mishap → ℕ → ℕ
     → Type 0
 ResumesAs schema standing turns found resumed old bytes foretold left before after =
     (s place : ℕ) (gone held : List Record) (rest : List ℕ) → IsReplayed schema s gone held rest standing turns old

@@ -26,7 +26,7 @@ use Rattle.kept_state.specs.Doubt.{IsDoubt}
 use Rattle.kept_records.specs.declared.record.Record.TheVariants as records
 use Rattle.log_replay.specs.Standing.{HasSlots, Stands, CanTakeIn}
 use Rattle.site_step.specs.Replaying.{downs_since, downs_before}
-use Rattle.site_step.specs.declared.accounts.Accounts.{Accounts}
+use Rattle.site_step.specs.declared.accounts.SiteAccounts.{SiteAccounts}
 use Rattle.site_step.specs.declared.extent.Extent.{Extent}
 use Rattle.site_step.specs.Site.{SiteValue, base_of}
 
@@ -47,7 +47,7 @@ pub record SetsAside (es : List Effect) (rows : List FieldRights) (open_rows : L
 
 -- The standing is what the kept records stand for; what is held there and which transactions are open is what took effect
 -- in the history; and the last number is the count of the transactions that it begins.
-pub record StandsOn (schema : SchemaValue) (s : ℕ) (base : Base) (o : List Entry) (rs : List Record) (a : Accounts) : Type 0 where
+pub record StandsOn (schema : SchemaValue) (s : ℕ) (base : Base) (o : List Entry) (rs : List Record) (a : SiteAccounts) : Type 0 where
   pub standing : Stands schema s rs a.standing
   pub aside : SetsAside (effects base false o) a.standing.rights a.journal
   pub last : a.last ≡ count_since is_begun_reply o
@@ -55,21 +55,21 @@ pub record StandsOn (schema : SchemaValue) (s : ℕ) (base : Base) (o : List Ent
 -- ---- what a command does in memory
 
 -- A standing with other rights.
-abbrev pub with_rights : List FieldRights → Accounts → Accounts
+abbrev pub with_rights : List FieldRights → SiteAccounts → SiteAccounts
 with_rights rows a = record a { standing = record { rights = rows; ledger = a.standing.ledger; epoch = a.standing.epoch } }
 
 -- A transaction taken out, and what it holds given back.
-abbrev pub after_release : TxnId → Accounts → Accounts
+abbrev pub after_release : TxnId → SiteAccounts → SiteAccounts
 after_release txn a =
     record (with_rights (by_escrows (ending Aborted) a.standing.rights (escrows_at txn a.journal)) a) { journal = without txn a.journal }
 
 -- A transaction taken out, and what it holds turned.
-abbrev pub after_spending : TxnId → Accounts → Accounts
+abbrev pub after_spending : TxnId → SiteAccounts → SiteAccounts
 after_spending txn a =
     record (with_rights (by_escrows (ending Committed) a.standing.rights (escrows_at txn a.journal)) a) { journal = without txn a.journal }
 
 -- What a command does that writes no record.
-abbrev pub after_settling : Accounts → Command → Accounts
+abbrev pub after_settling : SiteAccounts → Command → SiteAccounts
 after_settling a (Commit txn) = after_release txn a
 after_settling a (Abort txn) = after_release txn a
 after_settling a Begin = a
@@ -84,7 +84,7 @@ after_settling a (Share field) = a
 after_settling a Restart = a
 
 -- What is in memory when a record is taken in: a commit's transaction is released.
-abbrev pub before_taking_in : Accounts → Record → Accounts
+abbrev pub before_taking_in : SiteAccounts → Record → SiteAccounts
 before_taking_in a (records.Commit txn escrows) = after_release txn a
 before_taking_in a (records.Gift to field kind total) = a
 before_taking_in a (records.Accept from field kind total) = a
@@ -93,12 +93,12 @@ before_taking_in a (records.Restart epoch) = a
 before_taking_in a (records.Summary epoch rights gifts accepts tightenings) = a
 
 -- The transaction is open, and its escrows are held.
-pub record CanClose (a : Accounts) (txn : TxnId) : Type 0 where
+pub record CanClose (a : SiteAccounts) (txn : TxnId) : Type 0 where
   pub opened : is_listed txn a.journal ≡ true
   pub in_range : AreInRange a.standing.rights (escrows_at txn a.journal)
   pub are_held : AreHeld a.standing.rights (escrows_at txn a.journal)
 
-abbrev pub CanSettle : Accounts → Command → Type 0
+abbrev pub CanSettle : SiteAccounts → Command → Type 0
 CanSettle a (Commit txn) = CanClose a txn
 CanSettle a (Abort txn) = CanClose a txn
 CanSettle a Begin = Unit {0}
@@ -112,7 +112,7 @@ CanSettle a (Read field) = Unit {0}
 CanSettle a (Share field) = Unit {0}
 CanSettle a Restart = Unit {0}
 
-abbrev pub CanReady : Accounts → Record → Type 0
+abbrev pub CanReady : SiteAccounts → Record → Type 0
 CanReady a (records.Commit txn escrows) = CanClose a txn
 CanReady a (records.Gift to field kind total) = Unit {0}
 CanReady a (records.Accept from field kind total) = Unit {0}
@@ -121,7 +121,7 @@ CanReady a (records.Restart epoch) = Unit {0}
 CanReady a (records.Summary epoch rights gifts accepts tightenings) = Unit {0}
 
 -- The record can be taken in, once its transaction is released.
-pub record CanCarry (schema : SchemaValue) (a : Accounts) (kept : Record) : Type 0 where
+pub record CanCarry (schema : SchemaValue) (a : SiteAccounts) (kept : Record) : Type 0 where
   pub ready : CanReady a kept
   pub places : HasSlots schema (before_taking_in a kept).standing.rights (before_taking_in a kept).standing.ledger
   pub takes_ : CanTakeIn schema (before_taking_in a kept).standing kept
@@ -197,7 +197,7 @@ pub record Reaches (e : Extent) (gone held : List Record) : Type 0 where
 -- many stood when the site was last up, and where they end: these are all while it is up. Where an answer is in doubt, its
 -- record stands behind them, if it stands. Few records stand behind the last summary, and few were replayed. While the site
 -- is up, it stands on its history in memory too.
-pub record IsSoundSite (v : SiteValue) (up : Bool) (extent : Extent) (a : Accounts) : Type 0 where
+pub record IsSoundSite (v : SiteValue) (up : Bool) (extent : Extent) (a : SiteAccounts) : Type 0 where
   pub ground : RestsOn v.schema v.site (base_of v) (plain v.based)
   pub records : List Record
   pub rest : List ℕ

@@ -17,7 +17,7 @@ use site_rights::{Outcome, Rights};
 /// What the kept records stand for, the open transactions, whose escrows are held there, and the
 /// number of the last transaction begun in the epoch.
 #[derive(Drop)]
-pub(crate) struct Accounts {
+pub(crate) struct SiteAccounts {
     pub standing: Standing,
     pub journal: Journal,
     pub last: u32,
@@ -38,7 +38,7 @@ fn end(journal: &mut Journal, rights: &mut Rights, txn: TxnId, outcome: Outcome)
     journal.reuse(escrows);
 }
 
-impl Accounts {
+impl SiteAccounts {
     /// Ends an open transaction: what it holds is given back.
     fn release(&mut self, txn: TxnId)
         requires can { CanClose self.old txn }

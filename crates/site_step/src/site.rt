@@ -26,7 +26,7 @@ mod restart;
 mod shortening;
 mod tightening;
 
-use crate::accounts::Accounts;
+use crate::accounts::SiteAccounts;
 use crate::extent::Extent;
 use escrow_journal::Journal;
 use field_bounds::{Command, Entry, FieldNo, Kind, Reply, Schema, SiteNo, by_command};
@@ -65,7 +65,7 @@ pub struct Site<M: Medium, H: History<Entry> = Vec<Entry>> {
     extent: Extent,
     doubt: Option<usize>,
     replayed: u64,
-    accounts: Accounts,
+    accounts: SiteAccounts,
     // The text of the last record; its memory is used again.
     line: Vec<u8>,
 }
@@ -142,7 +142,7 @@ impl<M: Medium, H: History<Entry>> Site<M, H> {
                 extent,
                 doubt: None,
                 replayed: 0,
-                accounts: Accounts {
+                accounts: SiteAccounts {
                     standing,
                     journal: Journal::new(alloc),
                     last: 0,

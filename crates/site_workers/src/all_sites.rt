@@ -16,7 +16,7 @@ use crate::gathering::gather;
 use crate::inbox::open_inbox;
 use crate::one_site::{Seat, run_site};
 use crate::post::{Mail, Post, Spare, end_for};
-use crate::running::{Answer, Running, Task};
+use crate::running::{Answer, SiteThread, WorkPromise};
 use crate::site_fault::SiteFault;
 use field_bounds::{Command, Entry, Schema, SiteNo};
 use site_desk::Gate;
@@ -101,7 +101,7 @@ fn seat_of(
 }
 
 /// What a site's thread answers; one that couldn't be made is want of memory.
-fn answer_of<'x, R: Threads, G: Gate>(rt: &'x R, handle: Option<Running<'x, G>>) -> Answer
+fn answer_of<'x, R: Threads, G: Gate>(rt: &'x R, handle: Option<SiteThread<'x, G>>) -> Answer
     ensures made { IfSome handle.entry (λ job.
         IsAnswer job.schema (G.turns job.gate) job.site job.script result) }
     ensures refused { IfNone handle.entry (result ≡ Err (Worker NoMemory)) }
@@ -116,7 +116,7 @@ fn answer_of<'x, R: Threads, G: Gate>(rt: &'x R, handle: Option<Running<'x, G>>)
 fn join_all<'x, R: Threads, G: Gate>(
     rt: &'x R,
     alloc: Global,
-    handles: Vec<Option<Running<'x, G>>>,
+    handles: Vec<Option<SiteThread<'x, G>>>,
 ) -> Result<Vec<Answer>, WorkFault>
     ensures answers { (schema : SchemaValue) (gate : G) (all : List (List CommandSeen))
         → AreJoined schema gate (G.turns gate) all handles.entry.items [] →
@@ -139,7 +139,7 @@ fn join_all<'x, R: Threads, G: Gate>(
 fn end_for_missing<'x, R: Wait, G: Gate>(
     rt: &R,
     sites: u16,
-    handles: &[Option<Running<'x, G>>],
+    handles: &[Option<SiteThread<'x, G>>],
     spares: &mut Vec<Spare>,
 ) {
     for (site, handle) in (0..sites).zip(handles.iter().rev()) {
@@ -179,13 +179,13 @@ fn run_threads<'x, R: Threads + Wait + Sync, G: Gate>(
             let mut mails = mails;
             let mut spares = spares;
             let mut next = schema.sites();
-            let mut handles: Vec<Option<Running<G>>> = Vec::with_capacity(alloc, left.len())?;
+            let mut handles: Vec<Option<SiteThread<G>>> = Vec::with_capacity(alloc, left.len())?;
             while let Some(script) = left.pop() {
                 next -= 1;
                 let site = SiteNo(next);
                 let mut started = None;
                 if let Some(seat) = seat_of(site, script, posts.pop(), mails.pop()) {
-                    let task = Task {
+                    let task = WorkPromise {
                         schema,
                         site,
                         script: Snapshot::of(&seat.script),
@@ -200,7 +200,7 @@ fn run_threads<'x, R: Threads + Wait + Sync, G: Gate>(
                     );
                     match spawned {
                         Ok(handle) => {
-                            started = Some(Running::new(handle));
+                            started = Some(SiteThread::new(handle));
                         }
                         Err(refused) => drop(refused),
                     }

@@ -50,9 +50,9 @@ pub struct View {
 }
 
 /// The rule of an inbox.
-pub struct Standing;
+pub struct InboxRule;
 
-impl Protocol<Letter, View> for Standing {
+impl Protocol<Letter, View> for InboxRule {
     ghost use Rattle.site_workers.specs.Inboxes.{IsKept, first_maker};
 
     ghost holds = { IsKept };
@@ -115,10 +115,10 @@ impl Lesson<Letter, View> for Takes {
 pub type Way = Pass<Letter, View>;
 
 /// The end of an inbox into which letters are put.
-pub type Slot = RuledSender<Letter, View, Standing>;
+pub type Slot = RuledSender<Letter, View, InboxRule>;
 
 /// The end of an inbox from which its courier takes letters.
-pub type Inbox = RuledReceiver<Letter, View, Standing>;
+pub type Inbox = RuledReceiver<Letter, View, InboxRule>;
 
 /// Makes an inbox for at most 1,024 letters that wait, with the way of its maker, who is no worker.
 /// No other way of its maker's is ever there, so no site's name is given twice.
@@ -128,7 +128,7 @@ pub fn open_inbox(alloc: Global) -> Result<(Slot, Inbox, Way), AllocError>
     ensures seat { IfOk result (λ r. IsSeatAt (sends_on r.0) r.2) }
     ensures view { IfOk result (λ r. view r.2 ≡ first_maker) }
 {
-    bounded_with::<Letter, View, Standing, Global>(alloc, INBOX_LETTERS)
+    bounded_with::<Letter, View, InboxRule, Global>(alloc, INBOX_LETTERS)
 }
 
 /// Cuts the way of the next worker from the maker's: the first made is that of site 0. Costs no

@@ -16,14 +16,14 @@ pub type Answer = Result<Vec<Entry>, SiteFault>;
 
 /// What a site's thread promises of the history that it hands back, or of its fault.
 #[derive(Drop)]
-pub(crate) struct Task<'x, G: Gate> {
+pub(crate) struct WorkPromise<'x, G: Gate> {
     pub schema: &'x Schema,
     pub site: SiteNo,
     pub script: Snapshot<Vec<Command>>,
     pub gate: &'x G,
 }
 
-impl<'x, G: Gate> Promise<Answer> for Task<'x, G> {
+impl<'x, G: Gate> Promise<Answer> for WorkPromise<'x, G> {
     ghost kept_by = { λ p r. IfOk r (λ history. IsWorked p.schema.now p.site p.script.value.items
         history.items) × IfErr r (IsFaultOf p.schema.now (G.turns p.gate.now) p.site
         p.script.value.items) };
@@ -31,11 +31,11 @@ impl<'x, G: Gate> Promise<Answer> for Task<'x, G> {
 
 /// A site's thread. Contracts see what it was given.
 #[derive(Drop)]
-pub(crate) struct Running<'x, G: Gate> {
-    handle: PromisedHandle<Answer, Task<'x, G>>,
+pub(crate) struct SiteThread<'x, G: Gate> {
+    handle: PromisedHandle<Answer, WorkPromise<'x, G>>,
 }
 
-impl<'x, G: Gate> Model for Running<'x, G> {
+impl<'x, G: Gate> Model for SiteThread<'x, G> {
     ghost use Rattle.site_workers.specs.Jobs.{Job};
 
     ghost Value = { Job G };
@@ -48,14 +48,14 @@ impl<'x, G: Gate> Model for Running<'x, G> {
     } };
 }
 
-impl<'x, G: Gate> Running<'x, G> {
-    pub fn new(handle: PromisedHandle<Answer, Task<'x, G>>) -> Running<'x, G>
+impl<'x, G: Gate> SiteThread<'x, G> {
+    pub fn new(handle: PromisedHandle<Answer, WorkPromise<'x, G>>) -> SiteThread<'x, G>
         ensures schema { result.schema ≡ handle.entry.promise.schema.now }
         ensures site { result.site ≡ handle.entry.promise.site }
         ensures script { result.script ≡ handle.entry.promise.script.value.items }
         ensures gate { result.gate ≡ handle.entry.promise.gate.now }
     {
-        Running { handle }
+        SiteThread { handle }
     }
 
     pub fn join<R: Threads>(self, rt: &R) -> Answer
@@ -64,7 +64,7 @@ impl<'x, G: Gate> Running<'x, G> {
         ensures fault { IfErr result (IsFaultOf self.entry.schema (G.turns self.entry.gate)
             self.entry.site self.entry.script) }
     {
-        let Running { handle } = self;
+        let SiteThread { handle } = self;
         handle.join(rt)
     }
 }

@@ -9,20 +9,20 @@ use Rattle.std.proofs.lemmas.Map.Views.{btree_set_contains_iff, tells_apart}
 use Rattle.field_bounds.specs.declared.entry.Statement.{Statement}
 use Rattle.field_bounds.specs.declared.entry.Entry.{Entry}
 use Rattle.field_bounds.specs.Statements.{statement_of, IsIssued}
-use Rattle.statement_set.specs.declared.set.Key.{Key}
-use Rattle.statement_set.specs.contracts.set.KeyOrd.TheImpl as order
-use Rattle.statement_set.specs.contracts.set.KeyOrd.TheImpl.Laws as laws
+use Rattle.statement_set.specs.declared.set.StatementKey.{StatementKey}
+use Rattle.statement_set.specs.contracts.set.StatementKeyOrd.TheImpl as order
+use Rattle.statement_set.specs.contracts.set.StatementKeyOrd.TheImpl.Laws as laws
 use Rattle.statement_set.specs.Keys.{key_of, statement_of_key, statements_of}
 use Rattle.statement_set.specs.Issued.{HasIssued}
 
 -- ---- the keys and the statements are the same in number and in place
 
-pub told_by_keys : (keys : List Key) (told : Statement) → Contains (statements_of keys) told → Contains keys (key_of told)
+pub told_by_keys : (keys : List StatementKey) (told : Statement) → Contains (statements_of keys) told → Contains keys (key_of told)
 told_by_keys keys told has =
     let below : has.0 < length keys = omega (arith, length-map keys statement_of_key, has.1) in
     (has.0, below, ap key_of (sym (get_or-map statement_of_key keys has.0 (key_of told) told below) ∙ has.2))
 
-pub keys_tell : (keys : List Key) (told : Statement) → Contains keys (key_of told) → Contains (statements_of keys) told
+pub keys_tell : (keys : List StatementKey) (told : Statement) → Contains keys (key_of told) → Contains (statements_of keys) told
 keys_tell keys told has = (
   has.0,
   omega (arith, length-map keys statement_of_key, has.1),
@@ -34,7 +34,7 @@ keys_tell keys told has = (
 exact : CmpEqualImpliesEq (order.ghosts).cmp
 exact x y same = search rules
 
-pub contains_told : (s : BTreeSet Key) (told : Statement)
+pub contains_told : (s : BTreeSet StatementKey) (told : Statement)
     → IsTrue (contains (order.ghosts).cmp s (key_of told)) ↔ Contains (statements_of s.keys) told
 contains_told s told =
     let both = btree_set_contains_iff laws.total-law exact s (key_of told) in
@@ -42,7 +42,7 @@ contains_told s told =
 
 -- ---- what a set has that one statement was put into
 
-module _ (s n : BTreeSet Key) (put_in : Statement) (put : Updates (order.ghosts).cmp s n (key_of put_in) true) (other : Statement) where
+module _ (s n : BTreeSet StatementKey) (put_in : Statement) (put : Updates (order.ghosts).cmp s n (key_of put_in) true) (other : Statement) where
   one_of : (b : Bool) → is_eq ((order.ghosts).cmp (key_of put_in) (key_of other)) ≡ b
       → cond b true (contains (order.ghosts).cmp s (key_of other)) ≡ true → (put_in ≡ other) ⊎ Contains (statements_of s.keys) other
   one_of true same found = inl (ap statement_of_key (tells_apart exact (key_of put_in) (key_of other) same))

@@ -18,7 +18,7 @@ use std::marker::Model;
 /// A statement, as it is looked up: by its total, which mostly tells it from others, and then by
 /// the rest.
 #[derive(Clone, Copy, PartialEq, Eq, PartialOrd, Ord)]
-struct Key {
+struct StatementKey {
     total: u64,
     from: SiteNo,
     to: SiteNo,
@@ -26,10 +26,10 @@ struct Key {
     kind: Kind,
 }
 
-fn key_of(statement: Statement) -> Key
+fn key_of(statement: Statement) -> StatementKey
     ensures { result ≡ key_of statement }
 {
-    Key {
+    StatementKey {
         total: statement.total,
         from: statement.from,
         to: statement.to,
@@ -43,7 +43,7 @@ fn key_of(statement: Statement) -> Key
 
 /// Whether a statement is among those in order.
 #[inline(never)]
-fn is_among(rest: &BTreeSet<Key>, statement: Statement) -> bool
+fn is_among(rest: &BTreeSet<StatementKey>, statement: Statement) -> bool
     ensures { IsTrue result ↔ Contains (statements_of rest.now.keys) statement }
 {
     rest.contains(&key_of(statement))
@@ -51,7 +51,7 @@ fn is_among(rest: &BTreeSet<Key>, statement: Statement) -> bool
 
 /// Puts a statement among those in order, unless it is there.
 #[inline(never)]
-fn put_among(rest: &mut BTreeSet<Key>, statement: Statement) -> Result<(), AllocError>
+fn put_among(rest: &mut BTreeSet<StatementKey>, statement: Statement) -> Result<(), AllocError>
     ensures ok { OnOk result
         (IsPutAmong (statements_of rest.old.keys) (statements_of rest.new.keys) statement) }
     ensures err { OnErr result (rest.new.keys ≡ rest.old.keys) }
@@ -80,7 +80,7 @@ fn put_among(rest: &mut BTreeSet<Key>, statement: Statement) -> Result<(), Alloc
 #[derive(Drop)]
 pub struct StatementSet {
     rows: Rows,
-    rest: BTreeSet<Key>,
+    rest: BTreeSet<StatementKey>,
 }
 
 impl Model for StatementSet {

@@ -3,7 +3,7 @@
 ghost use Rattle.std.specs.Prelude.{◌≡◌, Some};
 ghost use Rattle.script_input.specs.Streams.{one_more};
 
-use script_input::{CallFailed, End, Sink};
+use script_input::{CallEnd, CallFailed, Sink};
 use std::alloc::Global;
 
 /// A sink that refuses a write once it has taken so many bytes.
@@ -11,7 +11,7 @@ use std::alloc::Global;
 pub struct RefusingSink {
     taken: Vec<u8>,
     room: usize,
-    last: End,
+    last: CallEnd,
     refusals: u64,
 }
 
@@ -21,7 +21,7 @@ impl RefusingSink {
         RefusingSink {
             taken: Vec::new(alloc),
             room,
-            last: End::NotCalled,
+            last: CallEnd::NotCalled,
             refusals: 0,
         }
     }
@@ -42,10 +42,10 @@ impl RefusingSink {
 
     fn refuse(&mut self) -> CallFailed
         ensures taken { self.new.taken ≡ self.old.taken }
-        ensures last { self.new.last ≡ End.Failed }
+        ensures last { self.new.last ≡ CallEnd.Failed }
         ensures refusals { self.new.refusals ≡ one_more self.old.refusals }
     {
-        self.last = End::Failed;
+        self.last = CallEnd::Failed;
         self.refusals = self.refusals.wrapping_add(1);
         CallFailed
     }
@@ -71,7 +71,7 @@ impl Sink for RefusingSink {
             return Err(self.refuse());
         }
         self.room = self.room.saturating_sub(count);
-        self.last = End::Moved;
+        self.last = CallEnd::Moved;
         Ok(count)
     }
 }

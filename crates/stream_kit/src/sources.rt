@@ -3,7 +3,7 @@
 ghost use Rattle.std.specs.Prelude.{◌≡◌, ◌≤◌, ◌++◌, length, Some};
 ghost use Rattle.script_input.specs.Streams.{one_more};
 
-use script_input::{CallFailed, End, Source};
+use script_input::{CallEnd, CallFailed, Source};
 use std::io::Read;
 
 /// A source of the bytes before and behind a read that fails.
@@ -11,7 +11,7 @@ use std::io::Read;
 pub struct FailingSource<'a> {
     before: &'a [u8],
     behind: &'a [u8],
-    last: End,
+    last: CallEnd,
     failures: u64,
 }
 
@@ -23,7 +23,7 @@ impl<'a> FailingSource<'a> {
         FailingSource {
             before: &bytes[..count],
             behind: &bytes[count..],
-            last: End::NotCalled,
+            last: CallEnd::NotCalled,
             failures: 0,
         }
     }
@@ -45,10 +45,10 @@ impl<'a> FailingSource<'a> {
     fn fail(&mut self) -> CallFailed
         ensures before { self.new.before ≡ self.old.before }
         ensures behind { self.new.behind ≡ self.old.behind }
-        ensures last { self.new.last ≡ End.Failed }
+        ensures last { self.new.last ≡ CallEnd.Failed }
         ensures failures { self.new.failures ≡ one_more self.old.failures }
     {
-        self.last = End::Failed;
+        self.last = CallEnd::Failed;
         self.failures = self.failures.wrapping_add(1);
         CallFailed
     }
@@ -74,9 +74,9 @@ impl Source for FailingSource<'_> {
             return Err(self.fail());
         };
         self.last = if count == 0 && !buffer.is_empty() {
-            End::Nothing
+            CallEnd::Nothing
         } else {
-            End::Moved
+            CallEnd::Moved
         };
         Ok(count)
     }

@@ -195,7 +195,7 @@ impl Gate for Order {
     }
 
     fn answered(&self, _site: SiteNo, _call: u64) {
-        if comes(&self.other, 100_000_000) {
+        if comes(&self.other, 20_000_000_000) {
             self.late.store(1, Ordering::SeqCst);
         }
     }
@@ -221,7 +221,7 @@ fn begin_beside<L: Ledger, R: Wait>(
     pass: &mut Pass<L>,
     gate: &Order,
 ) -> Option<u64> {
-    if !comes(&gate.inside, 100_000_000) {
+    if !comes(&gate.inside, 20_000_000_000) {
         return None;
     }
     let receipt = desk.call(rt, alloc, pass, Command::Begin).ok()?;

@@ -2,7 +2,7 @@
 
 use super::{Ended, READ_FAULT, ROW, ended, written};
 use check_kit::text_of_two;
-use escrow_audit::{End, Watched};
+use escrow_audit::{CallEnd, Watched};
 use std::alloc::{AllocError, Global};
 use std::process::Abort;
 use std::thread::Threads;
@@ -21,7 +21,7 @@ fn check_failing(
     let end = ended(rt, alloc, false, source, sink);
     assert_eq!(rt; end, READ_FAULT);
     assert_eq!(rt; source.failures(), 1);
-    assert_eq!(rt; sink.last(), End::NotCalled);
+    assert_eq!(rt; sink.last(), CallEnd::NotCalled);
 }
 
 /// Behind each byte of a text a read fails once.

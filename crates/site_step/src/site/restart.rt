@@ -18,12 +18,12 @@ use kept_records::{
     Medium, MediumFault, ReadBack, Record, append_restart_piece, count_plain, read_back,
     starts_with_no_restart,
 };
-use log_replay::{Resumed as Replay, Standing, resume as replay_end};
+use log_replay::{Resumed, Standing, resume as replay_end};
 use std::alloc::{AllocError, Global};
 
 /// How a restart went.
 #[derive(Drop)]
-enum Resumed {
+enum RestartEnd {
     /// The device failed. Where it was an append or a cut, so many records were replayed before.
     Failed {
         turns: Option<u64>,
@@ -50,8 +50,8 @@ fn add_restart<M: Medium>(
     line: &mut Vec<u8>,
     medium: &mut M,
     log: ReadBack,
-    replay: Replay,
-) -> Result<Resumed, AllocError>
+    replay: Resumed,
+) -> Result<RestartEnd, AllocError>
     requires whole { IsWhole (M.bytes medium.old) log.whole }
     requires present { log.present ≡ length (M.bytes medium.old) }
     requires within { log.whole ≤ log.present }
@@ -71,14 +71,14 @@ fn add_restart<M: Medium>(
     let next = Record::Restart { epoch };
     let due = due_behind(alloc, schema, &replay.standing, replay.turns, &next)?;
     match append_restart_piece(line, medium, log.whole, log.present, epoch, due)? {
-        Ok(()) => Ok(Resumed::Standing {
+        Ok(()) => Ok(RestartEnd::Standing {
             behind: log.behind,
             standing: replay.standing,
             epoch,
             turns: replay.turns,
             length: log.whole.saturating_add(line.len()),
         }),
-        Err(_) => Ok(Resumed::Failed {
+        Err(_) => Ok(RestartEnd::Failed {
             turns: Some(replay.turns),
         }),
     }
@@ -91,8 +91,8 @@ fn resume_over<M: Medium>(
     line: &mut Vec<u8>,
     medium: &mut M,
     log: ReadBack,
-    replay: Replay,
-) -> Result<Resumed, AllocError>
+    replay: Resumed,
+) -> Result<RestartEnd, AllocError>
     requires whole { IsWhole (M.bytes medium.old) log.whole }
     requires present { log.present ≡ length (M.bytes medium.old) }
     requires within { log.whole ≤ log.present }
@@ -108,7 +108,7 @@ fn resume_over<M: Medium>(
     ensures foretold { OnErr result (M.foretold medium.new ≡ M.foretold medium.old) }
 {
     if replay.standing.epoch >= MAX_EPOCH {
-        return Ok(Resumed::NumbersFull);
+        return Ok(RestartEnd::NumbersFull);
     }
     add_restart(alloc, schema, line, medium, log, replay)
 }
@@ -123,7 +123,7 @@ fn resume<M: Medium>(
     place: usize,
     line: &mut Vec<u8>,
     medium: &mut M,
-) -> Result<Resumed, AllocError>
+) -> Result<RestartEnd, AllocError>
     requires site_in { site.0 < schema.now.sites }
     requires limits { IsSchema schema.now }
     requires log { (gone : List Record) × (held : List Record) × (rest : List ℕ)
@@ -140,7 +140,7 @@ fn resume<M: Medium>(
 {
     let log = match read_back(alloc, medium, place) {
         Ok(log) => log,
-        Err(MediumFault::Device) => return Ok(Resumed::Failed { turns: None }),
+        Err(MediumFault::Device) => return Ok(RestartEnd::Failed { turns: None }),
         Err(MediumFault::NoMemory) => return Err(AllocError),
     };
     let replay = replay_end(alloc, schema, site, &log)?;
@@ -190,18 +190,18 @@ impl<M: Medium, H: History<Entry>> Site<M, H> {
             &mut self.line,
             &mut self.medium,
         )? {
-            Resumed::Failed { turns } => {
+            RestartEnd::Failed { turns } => {
                 self.up = false;
                 self.replayed = turns.unwrap_or(self.replayed);
                 tell(&mut self.history, self.number, Reply::StillDown);
                 Ok(Reply::StillDown)
             }
-            Resumed::NumbersFull => {
+            RestartEnd::NumbersFull => {
                 let reply = Reply::Refused(Refusal::NumbersFull);
                 tell(&mut self.history, self.number, reply);
                 Ok(reply)
             }
-            Resumed::Standing {
+            RestartEnd::Standing {
                 behind,
                 standing,
                 epoch,

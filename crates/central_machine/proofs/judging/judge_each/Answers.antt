@@ -1,7 +1,7 @@
 use Rattle.std.proofs.Common.{List, refl, sym, subst, ◌∙◌, arith, rules}
 use Rattle.field_bounds.specs.declared.entry.Entry.{Entry}
 use Rattle.central_rules.specs.Verdict.{verdict_back}
-use Rattle.central_machine.specs.Totals.{AreRunning}
+use Rattle.central_machine.specs.FrontTotals.{AreRunning}
 use Rattle.central_machine.proofs.Reading.{inside, shorter, next, front_is, stops, goes_on, ends, ends_legal}
 use Rattle.central_machine.proofs.judging.judge_each.Goals as goal
 

@@ -1,7 +1,7 @@
 use Rattle.std.proofs.Common.{◌≡◌, ◌≤◌, ◌-◌, reverse, take, length}
 use Rattle.central_rules.specs.declared.verdict.Verdict.TheVariants.{Legal}
 use Rattle.central_rules.specs.Verdict.{verdict_back}
-use Rattle.central_machine.specs.Totals.{AreRunning}
+use Rattle.central_machine.specs.FrontTotals.{AreRunning}
 use Rattle.central_machine.proofs.judging.judge_each.Given as goal
 
 abbrev pub invariant-loop-entry : goal.invariant-loop-entry

@@ -1,6 +1,6 @@
 use Rattle.std.proofs.Common.{◌∙◌, ap, arith}
-use Rattle.central_machine.specs.declared.journal.OpenTransaction.{OpenTransaction}
-use Rattle.central_machine.specs.Amounts.{amount}
+use Rattle.central_machine.specs.declared.journal.OpenRow.{OpenRow}
+use Rattle.central_machine.specs.FieldAmounts.{amount}
 use Rattle.central_machine.proofs.Ending.{row_less, row_more}
 use Rattle.central_machine.proofs.numbers.release_all.Goals as goal
 
@@ -12,7 +12,7 @@ loop-row-preserved c =
     let d = c.row-item.result in
     let below = c.loop-row-test.true in
     let xs = c.deref.result.now in
-    let is = c.deref.ensures.value ∙ ap (λ (r : OpenTransaction). r.escrows.items) c.row-item.is in
+    let is = c.deref.ensures.value ∙ ap (λ (r : OpenRow). r.escrows.items) c.row-item.is in
     record {
       held = λ f k there. row_less rows i d below f k xs is (amount c.args.held.now f k) (amount c.loop-row.held f k)
           (amount c.settle_all.new.held f k) (was.held f k there) (c.settle_all.ensures.held f k (was.held_places f ∙ there));

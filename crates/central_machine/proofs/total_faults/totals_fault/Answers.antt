@@ -5,7 +5,7 @@ use Rattle.central_rules.specs.declared.verdict.Verdict.TheVariants.{Legal}
 use Rattle.central_rules.specs.Verdict.{verdict_back}
 use Rattle.central_rules.proofs.Fronts.{front_more}
 use Rattle.central_machine.specs.declared.part.Part.TheVariants.{OnTotals}
-use Rattle.central_machine.specs.Totals.{AreTotals}
+use Rattle.central_machine.specs.FrontTotals.{AreTotals}
 use Rattle.central_machine.specs.Parts.{front_of, part_rule}
 use Rattle.central_machine.proofs.Found.{legal_parts, long_front, next_passed, no_fault, fault_at}
 use Rattle.central_machine.proofs.total_faults.totals_fault.Goals as goal

@@ -4,7 +4,7 @@ use Rattle.field_bounds.specs.declared.entry.Entry.{Entry}
 use Rattle.central_rules.specs.declared.verdict.Verdict.TheVariants.{Legal}
 use Rattle.central_rules.specs.Verdict.{verdict_back}
 use Rattle.central_machine.specs.declared.part.Part.TheVariants.{OnTotals}
-use Rattle.central_machine.specs.Totals.{AreTotals}
+use Rattle.central_machine.specs.FrontTotals.{AreTotals}
 use Rattle.central_machine.specs.Parts.{front_of, part_rule}
 use Rattle.central_machine.proofs.total_faults.totals_fault.Given as goal
 

@@ -1,7 +1,7 @@
 use Rattle.std.proofs.Common.{◌∙◌, arith}
 use Rattle.field_bounds.specs.declared.kind.Kind.TheVariants.{Lower, Raise}
 use Rattle.std.specs.Prelude.{None}
-use Rattle.reaching_steps.specs.Standing.{is_of}
+use Rattle.reaching_steps.specs.FieldHoldings.{is_of}
 use Rattle.reaching_steps.proofs.Standings.{held_same}
 use Rattle.reaching_steps.proofs.Owning.{held_fits}
 use Rattle.reaching_steps.proofs.rights.held_of.Goals as goal

@@ -3,7 +3,7 @@ use Rattle.field_bounds.specs.Kind.{other}
 use Rattle.field_bounds.specs.declared.effect.Effect.{Effect}
 use Rattle.field_bounds.specs.Effects.{fresh}
 use Rattle.field_bounds.specs.Lawful.{IsLawful}
-use Rattle.reaching_steps.specs.Standing.{Tells}
+use Rattle.reaching_steps.specs.FieldHoldings.{Tells}
 use Rattle.reaching_steps.proofs.Owning.{rights_are, settled_fits}
 use Rattle.reaching_steps.proofs.rights.rights_of.Goals as goal
 

@@ -1,4 +1,4 @@
-use Rattle.reaching_steps.specs.Standing.{Stands}
+use Rattle.reaching_steps.specs.FieldHoldings.{Stands}
 use Rattle.reaching_steps.proofs.Reading.{front_at}
 use Rattle.reaching_steps.proofs.site_effects.standing_at.Given as goal
 

@@ -2,7 +2,7 @@ use Rattle.std.proofs.Common.{◌≡◌, ◌<◌, ◌≤◌, ◌∙◌, ℕ, sym
 use Rattle.field_bounds.proofs.Conserved.{lawful_at}
 use Rattle.world_steps.specs.View.{trace_of}
 use Rattle.world_steps.specs.declared.step.StepReply.TheVariants.{Made}
-use Rattle.reaching_steps.specs.declared.standing.Standing.{Standing}
+use Rattle.reaching_steps.specs.declared.standing.FieldHoldings.{FieldHoldings}
 use Rattle.reaching_steps.specs.Told.{Puts, Renews}
 use Rattle.reaching_steps.proofs.Growing.{on_ok}
 use Rattle.reaching_steps.proofs.Table.{renews_none, renews_made, renews_past}
@@ -43,7 +43,7 @@ returns-else-ends_doubt c =
     let made = on_ok c.put_next.result (Puts f was e next) (Renews w f (Made e) rows (slice_set rows c.from-place.result next))
     (λ put. renews_put w f e rows (slice_set rows c.from-place.result next) next was inside
     (sym c.ends_doubt.ensures.value ∙ c.if-ends_doubt.false) lawful
-    (subst (λ (x : Standing). Puts f x e next) found put)
+    (subst (λ (x : FieldHoldings). Puts f x e next) found put)
     (ap (λ (n : ℕ). slice_set rows n next) at))
     c.put_next.ensures.put in
     record { renewed = rw c.in-Made.is made }

@@ -1,7 +1,7 @@
 use Rattle.std.proofs.Common.{◌∙◌, Some, arith}
 use Rattle.field_bounds.specs.declared.kind.Kind.{Kind}
 use Rattle.field_bounds.specs.declared.kind.Kind.TheVariants.{Lower, Raise}
-use Rattle.reaching_steps.specs.Standing.{is_of}
+use Rattle.reaching_steps.specs.FieldHoldings.{is_of}
 use Rattle.reaching_steps.proofs.Standings.{notes_commit, held_same}
 use Rattle.reaching_steps.proofs.standing.commit.Goals as goal
 

@@ -1,6 +1,6 @@
 use Rattle.std.proofs.Common.{◌≡◌, ◌≤◌, ◌+◌, drop}
 use Rattle.field_bounds.specs.declared.kind.Kind.TheVariants.{Lower, Raise}
-use Rattle.reaching_steps.specs.Standing.{is_of, held_sizes}
+use Rattle.reaching_steps.specs.FieldHoldings.{is_of, held_sizes}
 use Rattle.reaching_steps.proofs.standing.held_by.Given as goal
 
 abbrev pub invariant-loop-row : goal.invariant-loop-row

@@ -1,7 +1,7 @@
 use Rattle.std.proofs.Common.{rules}
 use Rattle.std.specs.Prelude.{◌≤◌, unsigned_abs, OnOk}
 use Rattle.field_bounds.specs.Kind.{kind_of}
-use Rattle.reaching_steps.specs.Standing.{Grows}
+use Rattle.reaching_steps.specs.FieldHoldings.{Grows}
 use Rattle.reaching_steps.proofs.Growing.{on_ok}
 use Rattle.reaching_steps.proofs.Standings.{notes_begin, notes_grant, notes_elsewhere, notes_abort, notes_give, notes_accept, notes_stop}
 use Rattle.reaching_steps.proofs.standing.note.Goals as goal

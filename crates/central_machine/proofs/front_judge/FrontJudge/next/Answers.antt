@@ -1,6 +1,6 @@
 use Rattle.std.proofs.Common.{sym, subst, ◌∙◌, arith, rules}
 use Rattle.std.proofs.lemmas.List.{length_push, length-reverse}
-use Rattle.central_machine.specs.Totals.{AreRunning}
+use Rattle.central_machine.specs.FrontTotals.{AreRunning}
 use Rattle.central_machine.proofs.Fed.{back_more, stays_legal, first_bad}
 use Rattle.central_machine.proofs.front_judge.FrontJudge.next.Goals as goal
 
