@@ -17,8 +17,8 @@ use Rattle.central_rules.specs.declared.verdict.Verdict.TheVariants.{Legal, Ille
 use Rattle.central_rules.specs.declared.verdict.Rule.{Rule}
 use Rattle.central_rules.specs.Verdict.{verdict_of}
 use Rattle.site_handle.specs.Session.{IsNoSchema}
-use Rattle.escrow_c.specs.declared.trace.TraceFault.{TraceFault}
-use Rattle.escrow_c.specs.declared.trace.TraceFault.TheVariants as trace_faults
+use Rattle.escrow_c.specs.declared.trace.EntriesFault.{EntriesFault}
+use Rattle.escrow_c.specs.declared.trace.EntriesFault.TheVariants as trace_faults
 use Rattle.escrow_c.specs.Status.{done, no_memory, no_schema, too_long, bad_entry, illegal}
 
 -- ---- a script
@@ -110,7 +110,7 @@ pub record HasBadEntry (header trace : List ℕ) (at : ℕ) : Type 0 where
   pub line : HasBadLine schema trace at
 
 -- Why a text isn't read.
-abbrev pub TellsBadLine : SchemaValue → List ℕ → TraceFault → Type 0
+abbrev pub TellsBadLine : SchemaValue → List ℕ → EntriesFault → Type 0
 TellsBadLine schema text trace_faults.NoMemory = Unit {0}
 TellsBadLine schema text (trace_faults.BadEntry at) = HasBadLine schema text at
 

@@ -4,7 +4,7 @@ ghost use Rattle.std.specs.Prelude.{◌≡◌, IfOk};
 ghost use Rattle.escrow_c.specs.Texts.{Judges};
 
 use crate::status::{BAD_ENTRY, DONE, ILLEGAL, NO_MEMORY, NO_SCHEMA};
-use crate::trace::{TraceFault, entries_of};
+use crate::trace::{EntriesFault, entries_of};
 use central_machine::{Verdict, judge};
 use field_bounds::{Schema, SchemaFault};
 use std::alloc::Global;
@@ -35,8 +35,8 @@ pub(crate) fn judge_trace(alloc: Global, header: &[u8], trace: &[u8]) -> Judgeme
     };
     let entries = match entries_of(alloc, &schema, trace) {
         Ok(entries) => entries,
-        Err(TraceFault::NoMemory) => return plain(NO_MEMORY),
-        Err(TraceFault::BadEntry(at)) => {
+        Err(EntriesFault::NoMemory) => return plain(NO_MEMORY),
+        Err(EntriesFault::BadEntry(at)) => {
             return Judgement {
                 status: BAD_ENTRY,
                 at,

@@ -10,7 +10,7 @@ use std::alloc::Global;
 
 /// Why a text isn't read as entries.
 #[derive(Clone, Copy, Debug)]
-pub(crate) enum TraceFault {
+pub(crate) enum EntriesFault {
     /// Memory is wanting.
     NoMemory,
     /// This line, counted from 1, is the first that is no entry.
@@ -31,7 +31,7 @@ pub(crate) fn entries_of(
     alloc: Global,
     schema: &Schema,
     text: &[u8],
-) -> Result<Vec<Entry>, TraceFault>
+) -> Result<Vec<Entry>, EntriesFault>
     ensures ok { IfOk result (λ entries. text.now ≡ lines_text schema.now entries.items) }
     ensures err { IfErr result (TellsBadLine schema.now text.now) }
 {
@@ -39,16 +39,16 @@ pub(crate) fn entries_of(
     let mut rest = text;
     'lines: while let Some((line, behind)) = split_line(rest) {
         let Some(entry) = read_entry(schema, line) else {
-            return Err(TraceFault::BadEntry(entries.len() as u64 + 1));
+            return Err(EntriesFault::BadEntry(entries.len() as u64 + 1));
         };
         if entries.push(entry).is_err() {
-            return Err(TraceFault::NoMemory);
+            return Err(EntriesFault::NoMemory);
         }
         rest = behind;
     }
     if rest.is_empty() {
         Ok(entries)
     } else {
-        Err(TraceFault::BadEntry(entries.len() as u64 + 1))
+        Err(EntriesFault::BadEntry(entries.len() as u64 + 1))
     }
 }

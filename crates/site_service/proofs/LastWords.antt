@@ -145,6 +145,10 @@ read_some schema text read at command is only site txn fits id same =
     let pair : (at, command) ≡ (site, Commit txn) = same_Some (at, command) (site, Commit txn) (sym is ∙ only site (Commit txn) fits id same) in
     (ap (λ (p : SiteNo × Command). p.0) pair, ap (λ (p : SiteNo × Command). p.1) pair)
 
+-- the transaction of the commit that was read
+pub commit_is : (command : Command) (found txn : TxnId) → command ≡ Commit found → command ≡ Commit txn → found ≡ txn
+commit_is command found txn is same = let both : Commit found ≡ Commit txn = sym is ∙ same in cc
+
 pub ends_with : (front before word : List ℕ) → bytes_eq (drop (length front - length word) front) word ≡ true
     → before ≡ take (length front - length word) front → front ≡ before ++ word
 ends_with front before word same is =

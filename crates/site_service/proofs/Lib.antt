@@ -20,8 +20,5 @@ pub mod Questions
 pub mod LastWords
 pub mod Since
 pub mod Told
-pub mod Lines
-pub mod LessHeld
-pub mod Batches
 pub mod Tracing
 pub mod WordFaults

@@ -1,6 +1,6 @@
 -- A service whose log was shortened is sound, and serves the same site.
 use Rattle.std.proofs.Common.{◌≡◌, ◌⊎◌, ◌||◌, ℕ, Bool, true, false, List, [], ◌∷◌, ◌++◌, length, take, Option, None, Some, refl, sym, ap, ◌∙◌, subst, inl, inr, arith, append_assoc, append-nil}
-use Rattle.std.proofs.lemmas.List.{take_all}
+use Rattle.std.proofs.lemmas.List.{append_cancel_left, take_all}
 use Rattle.std.proofs.lemmas.List.Folds.{list_any-append}
 use Rattle.field_bounds.specs.Schema.{SchemaValue}
 use Rattle.kept_records.specs.declared.record.Record.{Record}
@@ -17,8 +17,8 @@ use Rattle.site_service.specs.Kept.{LastNotes}
 use Rattle.site_service.specs.Answers.{served_of}
 use Rattle.site_service.specs.Service.{ServiceValue, value_of, StandsOnHeld, IsTextOf, HoldsText, IsSettled}
 use Rattle.site_service.specs.Index.{IsIndexOf, IsSoundService}
-use Rattle.site_step.specs.Shortening.{ShorteningValue, IsShortening, held_of, is_commit_of, has_commit}
-use Rattle.site_service.specs.Shortening.{HasLetGo, SparesOpen, LeavesEither}
+use Rattle.site_step.specs.Shortening.{ShorteningValue, IsShortening, CanGo, held_of, is_commit_of, has_commit}
+use Rattle.site_service.specs.Shortening.{KeepsHeldNotes, HasLetGo, SparesOpen, LeavesEither}
 use Rattle.site_service.specs.Shorter.{IsShorter}
 use Rattle.site_service.proofs.KeyedTexts.{keyed_more, lines_more}
 use Rattle.site_service.proofs.Held.{held_log}
@@ -87,32 +87,44 @@ module _ (site : SiteValue) (last : LastNotes) (told : Option Gone) (lines : ℕ
     tells = made.noted;
   }
 
-  -- what was let go
-  let_go_here : HasLetGo (served_of site last told lines) (served_of shorter_site shorter.keys.last (Some shorter.told) lines)
-  let_go_here = record {
-    site = refl;
-    lines = refl;
-    more = plan.gone;
-    base = is.base;
-    behind = is.behind;
-    held = is.log;
-    last = made.last stays [] is.held;
-    told = shorter.told;
-    let_go_is = refl;
-    tells = made.tells;
-  }
+  -- what was let go, where it can be with so many bytes to keep
+  module _ (keep : ℕ) (can : CanGo (held_of site) keep plan.gone) where
+    abbrev left : List Record
+    left = summary_record can.base ∷ can.behind
 
-  pub leaves_either : (safe now : Option (List ℕ)) → HoldsText safe last (held_of site) → (now ≡ safe) ⊎ IsCopyOf now text
-      → LeavesEither (served_of site last told lines) now
-  leaves_either safe now was (inl same) = inl (subst (λ (k : Option (List ℕ)). HoldsText k last (held_of site)) (sym same) was)
-  leaves_either safe now was (inr copy) =
-      inr (served_of shorter_site shorter.keys.last (Some shorter.told) lines, let_go_here, record { text = text; copy = copy; is = text_is })
+    stays_is : stays ≡ left
+    stays_is = append_cancel_left plan.gone stays left
+        (same_log (held_of site) (plan.gone ++ stays) (plan.gone ++ left) [] [] is.log can.log).0
 
-  module _ (later : SiteValue) (same : later ≡ shorter_site) where
-    pub has_let_go : HasLetGo (served_of site last told lines) (served_of later shorter.keys.last (Some shorter.told) lines)
-    has_let_go = subst (λ (v : SiteValue). HasLetGo (served_of site last told lines) (served_of v shorter.keys.last (Some shorter.told) lines))
+    let_go_here : HasLetGo keep (served_of site last told lines) (served_of shorter_site shorter.keys.last (Some shorter.told) lines)
+    let_go_here = record {
+      site = refl;
+      lines = refl;
+      more = plan.gone;
+      can = can;
+      last = subst (KeepsHeldNotes last shorter.keys.last) stays_is (made.last stays [] is.held);
+      told = shorter.told;
+      let_go_is = refl;
+      tells = made.tells;
+    }
+
+    pub leaves_either : (safe now : Option (List ℕ)) → HoldsText safe last (held_of site) → (now ≡ safe) ⊎ IsCopyOf now text
+        → LeavesEither keep (served_of site last told lines) now
+    leaves_either safe now was (inl same) = inl (subst (λ (k : Option (List ℕ)). HoldsText k last (held_of site)) (sym same) was)
+    leaves_either safe now was (inr copy) =
+        inr (
+          served_of shorter_site shorter.keys.last (Some shorter.told) lines,
+          let_go_here,
+          record { text = text; copy = copy; is = text_is },
+        )
+
+    pub has_let_go : (later : SiteValue) → later ≡ shorter_site
+        → HasLetGo keep (served_of site last told lines) (served_of later shorter.keys.last (Some shorter.told) lines)
+    has_let_go later same =
+        subst (λ (v : SiteValue). HasLetGo keep (served_of site last told lines) (served_of v shorter.keys.last (Some shorter.told) lines))
         (sym same) let_go_here
 
+  module _ (later : SiteValue) (same : later ≡ shorter_site) where
     pub spares_open : SparesOpen (served_of site last told lines) (served_of later shorter.keys.last (Some shorter.told) lines)
     spares_open = made.spares
 

@@ -3,15 +3,18 @@ use Rattle.std.proofs.Common.{◌≡◌, ◌≢◌, ℕ, List, [], ◌∷◌, �
 use Rattle.std.specs.Fmt.{decimal}
 use Rattle.std.proofs.lemmas.List.{length-append, append_cancel_left, append_cancel_right}
 use Rattle.std.proofs.lemmas.List.Elements.{All-append, All-cons}
+use Rattle.std.proofs.lemmas.Option.{same_Some}
 use Rattle.field_bounds.specs.Schema.{SchemaValue}
 use Rattle.field_bounds.specs.declared.id.SiteNo.{SiteNo}
 use Rattle.field_bounds.specs.declared.id.TxnId.{TxnId}
 use Rattle.entry_text.specs.Spelling.{id_text}
 use Rattle.entry_text.specs.Ranges.{IdFits}
+use Rattle.entry_text.specs.Reading.{id_of}
+use Rattle.entry_text.proofs.WordKinds.{id_read}
 use Rattle.caller_keys.specs.Keys.{IsKey}
 use Rattle.caller_keys.proofs.Lines.{tested, number_without}
 use Rattle.site_service.specs.Kept.{kept_key_text, with_since, SinceFits}
-use Rattle.site_service.specs.Answers.{commit_text, AsksCommit}
+use Rattle.site_service.specs.Answers.{commit_text, AsksCommit, IsBehindSince}
 use Rattle.site_service.specs.Asking.{AsksKey, HasNoSpace, IsCutAtSince}
 use Rattle.site_service.proofs.LastWords.{one_last, no_last, key_one_word}
 
@@ -100,6 +103,25 @@ front_by line front text key (Some found) (Some since) cut ends fits is =
     (sym (since_word front (id_text found)) ∙ sym cut.parts ∙ is ∙ since_word text (id_text since)) in
     append_cancel_right front text (codes " since") same.front
 
+-- a text tells one position
+id_same : (a b : TxnId) → IdFits a → IdFits b → id_text a ≡ id_text b → a ≡ b
+id_same a b first second same = same_Some a b (sym (id_read.again a first) ∙ ap id_of same ∙ id_read.again b second)
+
+since_by : (line front text key : List ℕ) (found since : Option TxnId) → IsCutAtSince line front found → EndsInKey text key
+    → SinceFits since → line ≡ with_since text since → found ≡ since
+since_by line front text key None None cut ends fits is = refl
+since_by line front text key None (Some since) cut ends fits is = absurd (cut.none refl text since fits is)
+since_by line front text key (Some found) None cut ends fits is =
+    let same = one_last (front ++ codes " since") (ends.before ++ codes " key") (id_text found) key (id_one_word found cut.fits)
+    (key_one_word key ends.is_key)
+    (sym (since_word front (id_text found)) ∙ sym cut.parts ∙ is ∙ ends.parts ∙ sym (append_assoc ends.before (codes " key") (32 ∷ key))) in
+    absurd (apart front ends.before same.front)
+since_by line front text key (Some found) (Some since) cut ends fits is =
+    let same = one_last (front ++ codes " since") (text ++ codes " since") (id_text found) (id_text since)
+    (id_one_word found cut.fits) (id_one_word since fits)
+    (sym (since_word front (id_text found)) ∙ sym cut.parts ∙ is ∙ since_word text (id_text since)) in
+    ap (λ (t : TxnId). Some t) (id_same found since cut.fits fits same.rest)
+
 module _ (line front : List ℕ) (found : Option TxnId) (cut : IsCutAtSince line front found) where
   -- of a commit
   pub order_is : (schema : SchemaValue) (site : SiteNo) (txn : TxnId) (key : List ℕ) (since : Option TxnId)
@@ -107,6 +129,19 @@ module _ (line front : List ℕ) (found : Option TxnId) (cut : IsCutAtSince line
   order_is schema site txn key since asks =
       front_by line front (commit_text schema site txn key) key found since cut
       (record { is_key = asks.is_key; before = _; parts = refl }) asks.since_fits asks.text
+
+  pub since_is : (schema : SchemaValue) (site : SiteNo) (txn : TxnId) (key : List ℕ) (since : Option TxnId)
+      → AsksCommit schema site line txn key since → found ≡ since
+  since_is schema site txn key since asks =
+      since_by line front (commit_text schema site txn key) key found since cut
+      (record { is_key = asks.is_key; before = _; parts = refl }) asks.since_fits asks.text
+
+  -- a transaction that isn't behind the position that was found is none that the line asks to commit
+  pub late_for : (at : TxnId) → (IsBehindSince found at → ⊥) → (schema : SchemaValue) (site : SiteNo) (txn : TxnId) (key : List ℕ)
+      (since : Option TxnId) → at ≡ txn → AsksCommit schema site line txn key since → ⊥
+  late_for at late schema site txn key since same asks =
+      late (subst (λ (t : TxnId). IsBehindSince found t) (sym same)
+      (subst (λ (s : Option TxnId). IsBehindSince s txn) (sym (since_is schema site txn key since asks)) asks.behind))
 
   -- of a question
   pub question_is : (key : List ℕ) (since : Option TxnId) → AsksKey line key since → front ≡ kept_key_text key

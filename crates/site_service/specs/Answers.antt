@@ -1,5 +1,5 @@
 -- What a site answers to lines (this project).
-use Rattle.std.specs.Prelude.{◌≡◌, ◌≢◌, ◌⊎◌, ◌<◌, ◌≤◌, ℕ, Bool, true, false, if◌then◌else◌, List, [], ◌∷◌, ◌++◌, length, Option, None, codes}
+use Rattle.std.specs.Prelude.{◌≡◌, ◌≢◌, ◌⊎◌, ◌<◌, ◌≤◌, ℕ, Bool, true, false, if◌then◌else◌, List, [], ◌∷◌, ◌++◌, length, Option, None, Some, codes}
 use Rattle.std.specs.Fmt.{decimal}
 use Rattle.field_bounds.specs.Schema.{SchemaValue}
 use Rattle.field_bounds.specs.declared.id.SiteNo.{SiteNo}
@@ -9,7 +9,7 @@ use Rattle.field_bounds.specs.declared.entry.Command.TheVariants.{Commit}
 use Rattle.field_bounds.specs.declared.entry.Reply.{Reply}
 use Rattle.field_bounds.specs.declared.entry.Reply.TheVariants.{Committed}
 use Rattle.site_step.specs.Site.{SiteValue, Applies, entry_of}
-use Rattle.site_step.specs.Shortening.{held_of}
+use Rattle.site_step.specs.Shortening.{held_of, is_up_to}
 use Rattle.log_head.specs.declared.gone.Gone.{Gone}
 use Rattle.entry_text.specs.Spelling.{command_text, entry_text}
 use Rattle.entry_text.specs.Ranges.{SiteFits, IdFits, CommandFits}
@@ -96,11 +96,18 @@ pub record ToldKept (old : Served) (line : List ℕ) (new : Served) (text : List
 abbrev pub commit_text : SchemaValue → SiteNo → TxnId → List ℕ → List ℕ
 commit_text schema site txn key = command_text schema site (Commit txn) ++ (codes " key " ++ key)
 
--- The line is the text of a commit with a key at this site; it may tell since when the key is looked for.
+-- The transaction is behind this position, where one is told: it is of a later epoch, or of its epoch with a greater number.
+abbrev pub IsBehindSince : Option TxnId → TxnId → Type 0
+IsBehindSince None txn = Unit {0}
+IsBehindSince (Some since) txn = is_up_to since txn ≡ false
+
+-- The line is the text of a commit with a key at this site; it may tell since when the key is looked for: a position that the transaction
+-- is behind. Else its own commit wouldn't be looked for, when the order is asked for again.
 pub record AsksCommit (schema : SchemaValue) (number : SiteNo) (line : List ℕ) (txn : TxnId) (key : List ℕ) (since : Option TxnId) : Type 0 where
   pub fits : IdFits txn
   pub is_key : IsKey key
   pub since_fits : SinceFits since
+  pub behind : IsBehindSince since txn
   pub text : line ≡ with_since (commit_text schema number txn key) since
 
 -- The reply tells that a transaction was committed.

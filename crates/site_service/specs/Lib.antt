@@ -2,8 +2,7 @@ pub mod Answers
 pub mod Service
 pub mod Opening
 pub mod Traces
-pub mod Keeping
-pub mod Serving
+pub mod Counting
 pub mod Stops
 pub mod Kept
 pub mod LetGo

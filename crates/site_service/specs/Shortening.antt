@@ -1,17 +1,16 @@
 -- What a service lets go of its log, and what it tells of it (this project).
-use Rattle.std.specs.Prelude.{◌≡◌, ◌⊎◌, ℕ, ◌+◌, Bool, true, false, List, [], ◌∷◌, ◌++◌, length, reverse, slice_get, Option, None, Some}
+use Rattle.std.specs.Prelude.{◌≡◌, ◌⊎◌, ℕ, ◌+◌, Bool, true, false, List, ◌∷◌, ◌++◌, length, reverse, slice_get, Option, None, Some}
 use Rattle.std.specs.List.{flat_map}
 use Rattle.field_bounds.specs.declared.id.TxnId.{TxnId}
 use Rattle.field_bounds.specs.Effects.{open_txns}
 use Rattle.kept_records.specs.declared.record.Record.{Record}
 use Rattle.kept_records.specs.Text.{text}
-use Rattle.kept_records.specs.Logs.{IsLog}
 use Rattle.kept_records.specs.Stands.{plain}
-use Rattle.kept_records.specs.Summary.{SummaryValue, summary_record}
+use Rattle.kept_records.specs.Summary.{summary_record}
 use Rattle.site_step.specs.Site.{here}
 use Rattle.log_head.specs.declared.gone.Gone.{Gone}
 use Rattle.log_head.specs.Horizons.{is_passed}
-use Rattle.site_step.specs.Shortening.{has_commit}
+use Rattle.site_step.specs.Shortening.{has_commit, CanGo}
 use Rattle.site_service.specs.LetGo.{let_go_of, may_be_gone}
 use Rattle.site_service.specs.Kept.{LastNotes, last_of, if_committed, TellsCommit}
 use Rattle.site_service.specs.Answers.{Served, site_of, held_in}
@@ -38,23 +37,21 @@ pub record TellsMore (old : Option Gone) (new : Gone) (more : List Record) : Typ
 abbrev pub KeepsHeldNotes : LastNotes → LastNotes → List Record → Type 0
 KeepsHeldNotes old new held = (key : List ℕ) → last_of new key ≡ if_committed held (last_of old key)
 
--- The same site is served, and these records more were let go, the first of those that were held; a summary is the first that is held
--- still. Of keys those stay noted whose commits are held.
-pub record HasLetGo (old new : Served) : Type 0 where
+-- The same site is served, and these records more were let go, one at least, the first of those that were held: a summary is the first that
+-- is held still, so many bytes stand behind its line, and another summary among them. Of keys those stay noted whose commits are held.
+pub record HasLetGo (keep : ℕ) (old new : Served) : Type 0 where
   pub site : new.site ≡ old.site
   pub lines : new.lines ≡ old.lines
   pub more : List Record
-  pub base : SummaryValue
-  pub behind : List Record
-  pub held : IsLog (held_in old) (more ++ summary_record base ∷ behind) []
-  pub last : KeepsHeldNotes old.last new.last (summary_record base ∷ behind)
+  pub can : CanGo (held_in old) keep more
+  pub last : KeepsHeldNotes old.last new.last (summary_record can.base ∷ can.behind)
   pub told : Gone
   pub let_go_is : new.let_go ≡ let_go_of (old.let_go.gone ++ more) (Some told)
   pub tells : TellsMore old.let_go.told told more
 
--- Nothing has changed, or more was let go.
-abbrev pub MayLetGo : Served → Served → Type 0
-MayLetGo old new = (new ≡ old) ⊎ HasLetGo old new
+-- Nothing has changed, or more was let go, and so many bytes stay.
+abbrev pub MayLetGo : ℕ → Served → Served → Type 0
+MayLetGo keep old new = (new ≡ old) ⊎ HasLetGo keep old new
 
 -- By this test no transaction may be gone that is open, has no commit among the records that are held, and couldn't be gone before.
 abbrev pub SparesOpenBy : Served → (TxnId → Bool) → Type 0
@@ -66,7 +63,7 @@ SparesOpenBy old is_gone =
 abbrev pub SparesOpen : Served → Served → Type 0
 SparesOpen old new = SparesOpenBy old (may_be_gone new.let_go.told)
 
--- It isn't known which log a stop of the machine leaves: that of this site, or a shorter one; each is whole.
-abbrev pub LeavesEither : Served → Option (List ℕ) → Type 0
-LeavesEither old safe =
-    HoldsText safe old.last (held_in old) ⊎ ((later : Served) × HasLetGo old later × HoldsText safe later.last (held_in later))
+-- It isn't known which log a stop of the machine leaves: that of this site, or a shorter one, in which so many bytes stay; each is whole.
+abbrev pub LeavesEither : ℕ → Served → Option (List ℕ) → Type 0
+LeavesEither keep old safe =
+    HoldsText safe old.last (held_in old) ⊎ ((later : Served) × HasLetGo keep old later × HoldsText safe later.last (held_in later))

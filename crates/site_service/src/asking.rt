@@ -1,16 +1,17 @@
 //! What a line asks of a site.
 
-ghost use Rattle.std.specs.Prelude.{◌≡◌, ◌≢◌, ◌≤◌, ◌++◌, ◌∷◌, ℕ, List, Option, length, codes, MatchOption, IfOk, IfErr, OnOk, IfSome, IfNone};
+ghost use Rattle.std.specs.Prelude.{◌≡◌, ◌≢◌, ◌≤◌, ◌++◌, ◌∷◌, ℕ, true, false, List, Option, length, codes, MatchOption, IfOk, IfErr, OnOk, IfSome, IfNone};
 ghost use Rattle.field_bounds.specs.declared.id.SiteNo.{SiteNo as Site};
 ghost use Rattle.field_bounds.specs.declared.id.TxnId.{TxnId as Txn};
 ghost use Rattle.field_bounds.specs.declared.entry.Command.{Command as CommandType};
 ghost use Rattle.entry_text.specs.Lines.{max_line};
 ghost use Rattle.entry_text.specs.Ranges.{SiteFits, IdFits};
 ghost use Rattle.entry_text.specs.Spelling.{command_text, id_text};
-ghost use Rattle.site_service.specs.Answers.{AsksCommit, IsBad};
+ghost use Rattle.site_service.specs.Answers.{AsksCommit, IsBad, IsBehindSince};
 ghost use Rattle.site_service.specs.Asking.{IsAsked, IsQuestion, AsksKey, AsksNoQuestion, AsksNoCommand, HasNoSpace, IsCutAtKey, IsCutAtSince, SpellsCommit};
 
 use crate::bad_line::BadLine;
+use crate::letting_go::is_up_to;
 use crate::line_fault::fault_in;
 use caller_keys::{Key, read_key};
 use entry_text::{MAX_LINE, read_command, read_txn};
@@ -182,12 +183,23 @@ fn read_commit(schema: &Schema, text: &[u8]) -> Option<(SiteNo, TxnId)>
         × (text.now ≡ command_text schema.now asked.0 (CommandType.Commit asked.1))) }
     ensures only { (site : Site) (txn : Txn) → SiteFits site → IdFits txn
         → text.now ≡ command_text schema.now site (CommandType.Commit txn)
-        → MatchOption result ⊥ (λ asked. asked.0 ≡ site) }
+        → MatchOption result ⊥ (λ asked. (asked.0 ≡ site) × (asked.1 ≡ txn)) }
 {
     let (site, command) = read_command(schema, text)?;
     match commit_of(command) {
         Some(txn) => Some((site, txn)),
         None => None,
+    }
+}
+
+// Whether a transaction is behind a position, where one is told.
+fn is_behind_since(since: Option<TxnId>, txn: TxnId) -> bool
+    ensures yes { result ≡ true → IsBehindSince since txn }
+    ensures no { result ≡ false → IsBehindSince since txn → ⊥ }
+{
+    match since {
+        Some(since) => !is_up_to(since, txn),
+        None => true,
     }
 }
 
@@ -202,6 +214,9 @@ fn read_with_key<'a>(schema: &Schema, line: &'a [u8]) -> Option<(SiteNo, KeyedCo
     let (spelled, word) = split_key(order)?;
     let key = read_key(word)?;
     let (site, txn) = read_commit(schema, spelled)?;
+    if !is_behind_since(since, txn) {
+        return None;
+    }
     let commit = KeyedCommit {
         spelled,
         txn,

@@ -3,7 +3,7 @@
 ghost use Rattle.std.specs.Prelude.{◌≡◌, [], OnOk, OnErr, IfErr};
 ghost use Rattle.std.specs.Io.KnownBytes.{Appends, append_known};
 ghost use Rattle.script_input.specs.Streams.{AppendsPrefix, HasRefused};
-ghost use Rattle.site_service.specs.Serving.{CountsWrites};
+ghost use Rattle.site_service.specs.Counting.{CountsWrites};
 
 use crate::fault::ServeFault;
 use file_medium::{FileFailed, LogFile, write_front};

@@ -12,7 +12,7 @@ ghost use Rattle.site_service.specs.Kept.{AnswersCommit, AnswersKey, IsRightOf};
 ghost use Rattle.site_service.specs.LetGo.{IsRightOfKey, IsTold, let_go_of, nothing_gone};
 ghost use Rattle.site_service.specs.Opening.{IsOpened, IsStarted, IsSafe, KeepsLines, SparesLines, TellsBadLine};
 ghost use Rattle.site_service.specs.Service.{Grows, StandsOnHeld, AddsNotesFirst, IsSettled, KeepsLog, HasApplied, HasAnswered, LetsOut, HoldsBack};
-ghost use Rattle.site_service.specs.Serving.{CountsWrites};
+ghost use Rattle.site_service.specs.Counting.{CountsWrites};
 ghost use Rattle.site_service.specs.Traces.{trace_of, HasTold, HasKept};
 
 mod shortening;

@@ -14,6 +14,7 @@ use check_kit::{STOCK, command, joined, stock_of_two};
 use field_bounds::{SiteNo, TxnId};
 use file_medium::{FileCall, FileMishap, LogFile, MemoryFile};
 use kept_records::Device;
+use line_serving::{serve, serve_keeping};
 use site_service::*;
 use std::alloc::{AllocError, Global};
 use std::io::Read;

@@ -1,11 +1,11 @@
 //! A log that is shortened: its front is let go, up to a summary.
 
-ghost use Rattle.std.specs.Prelude.{◌≡◌, true, IfOk, IfSome, OnOk, OnErr};
+ghost use Rattle.std.specs.Prelude.{◌≡◌, ℕ, true, IfOk, IfSome, OnOk, OnErr};
 ghost use Rattle.field_bounds.specs.Owed.{is_up};
 ghost use Rattle.log_head.specs.Horizons.{is_passed};
 ghost use Rattle.site_step.specs.Site.{base_of};
 ghost use Rattle.site_service.specs.Answers.{site_of, held_in};
-ghost use Rattle.site_step.specs.Shortening.{IsShortening};
+ghost use Rattle.site_step.specs.Shortening.{IsShortening, CanGo};
 ghost use Rattle.site_service.specs.Service.{IsSettled};
 ghost use Rattle.site_service.specs.Shortening.{TellsMore, MayLetGo, SparesOpenBy, SparesOpen, LeavesEither};
 ghost use Rattle.site_service.specs.Shorter.{ListsAllOpen, IsShorter};
@@ -101,18 +101,21 @@ impl<F: ShortLog> Service<F> {
         }))
     }
 
-    // Puts a shorter log in the place of the log, and then lets go of what it hasn't got.
+    // Puts a shorter log in the place of the log, and then lets go of what it hasn't got: so many bytes
+    // stay as the plan leaves.
     fn replace_by(&mut self, plan: Shortening, shorter: Shorter) -> Result<(), Device>
         requires settled { IsSettled self.old }
         requires plan { IsShortening (site_of self.old.served) plan }
         requires is { IsShorter self.old.served plan shorter }
         ensures ok { OnOk result (IsSettled self.new) }
-        ensures let_go { OnOk result (MayLetGo self.old.served self.new.served) }
+        ensures let_go { (keep : ℕ) → CanGo (held_in self.old.served) keep plan.gone
+            → OnOk result (MayLetGo keep self.old.served self.new.served) }
         ensures open { OnOk result (SparesOpen self.old.served self.new.served) }
         ensures waiting { self.new.waiting ≡ self.old.waiting }
         ensures lost { OnErr result (self.new.lost ≡ true) }
         ensures served { OnErr result (self.new.served ≡ self.old.served) }
-        ensures safe { OnErr result (LeavesEither self.old.served self.new.safe) }
+        ensures safe { (keep : ℕ) → CanGo (held_in self.old.served) keep plan.gone
+            → OnErr result (LeavesEither keep self.old.served self.new.safe) }
     {
         let Shorter {
             told,
@@ -138,7 +141,8 @@ impl<F: ShortLog> Service<F> {
     }
 
     /// Shortens the log, where the site can: what is let go are its first records, up to a summary
-    /// behind which at least so many bytes stay. A log of what stays takes the place of the log: the
+    /// behind whose line at least `keep` bytes stay, and another summary among them: so at least 1,000
+    /// records, also where `keep` is 0. A log of what stays takes the place of the log: the
     /// notes of the keys whose commits are held, and the records that are held. What was answered, and
     /// what waits, stays as it is, and so does what the site stands on. A commit that is let go is
     /// forgotten from then on, and so is its key; of a transaction that is open, and hasn't
@@ -151,14 +155,17 @@ impl<F: ShortLog> Service<F> {
     pub fn shorten(&mut self, alloc: Global, keep: usize) -> Result<(), Device>
         requires settled { IsSettled self.old }
         ensures ok { OnOk result (IsSettled self.new) }
-        ensures let_go { OnOk result (MayLetGo self.old.served self.new.served) }
+
+        // Of what was held at least `keep` bytes and another summary stay behind the summary that
+        // comes first.
+        ensures let_go { OnOk result (MayLetGo keep self.old.served self.new.served) }
 
         // A client whose transaction was open is told of its commit yes or no, as before.
         ensures open { OnOk result (SparesOpen self.old.served self.new.served) }
         ensures waiting { self.new.waiting ≡ self.old.waiting }
         ensures lost { OnErr result (self.new.lost ≡ true) }
         ensures served { OnErr result (self.new.served ≡ self.old.served) }
-        ensures safe { OnErr result (LeavesEither self.old.served self.new.safe) }
+        ensures safe { OnErr result (LeavesEither keep self.old.served self.new.safe) }
     {
         let Ok(Some(plan)) = self.site.shortening(alloc, keep) else {
             return Ok(());

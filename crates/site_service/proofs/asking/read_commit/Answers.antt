@@ -1,4 +1,4 @@
-use Rattle.site_service.proofs.LastWords.{read_none, read_some}
+use Rattle.site_service.proofs.LastWords.{read_none, read_some, commit_is}
 use Rattle.site_service.proofs.asking.read_commit.Goals as goal
 
 pub returns-in_err-site-clause-only : goal.returns-in_err-site-clause-only
@@ -7,8 +7,9 @@ returns-in_err-site-clause-only c = λ site txn fits id same.
 
 pub returns-in-Some-clause-only : goal.returns-in-Some-clause-only
 returns-in-Some-clause-only c = λ site txn fits id same.
-    (read_some c.args.schema.now c.args.text.now c.read_command.result c.in_ok-site.site c.in_ok-site.command c.in_ok-site.was
-    c.read_command.ensures.only site txn fits id same).0
+    let read = read_some c.args.schema.now c.args.text.now c.read_command.result c.in_ok-site.site c.in_ok-site.command c.in_ok-site.was
+    c.read_command.ensures.only site txn fits id same in
+    (read.0, commit_is c.in_ok-site.command c.in-Some.txn txn c.in-Some.ensures read.1)
 
 pub returns-in-None-clause-only : goal.returns-in-None-clause-only
 returns-in-None-clause-only c = λ site txn fits id same.

@@ -1,7 +1,7 @@
 use Rattle.std.proofs.Common.{◌≡◌, Some, length, sym, ap, ◌∙◌, subst, inr}
 use Rattle.file_medium.specs.Copies.{IsCopyOf}
-use Rattle.site_step.specs.Shortening.{IsShortening}
-use Rattle.site_service.specs.Answers.{site_of, served_of}
+use Rattle.site_step.specs.Shortening.{IsShortening, CanGo}
+use Rattle.site_service.specs.Answers.{site_of, served_of, held_in}
 use Rattle.site_service.specs.Service.{ServiceValue, IsSettled}
 use Rattle.site_service.specs.Shortening.{MayLetGo, LeavesEither}
 use Rattle.site_service.specs.Shorter.{IsShorter}
@@ -37,14 +37,15 @@ returns-in-Ok-clause-ok g c =
     (ap (λ (v : ServiceValue). v.lost) c.self.view_is ∙ c.requires.settled.sound)
 
 pub returns-in-Ok-clause-let_go : goal.returns-in-Ok-clause-let_go
-returns-in-Ok-clause-let_go g c =
+returns-in-Ok-clause-let_go g c = λ keep can.
     let s = c.self.inside in
+    let may = subst (λ (v : ServiceValue). CanGo (held_in v.served) keep c.args.plan.gone) (sym c.self.view_is) can in
     let is = subst (λ (v : ServiceValue). IsShortening (site_of v.served) c.args.plan) (sym c.self.view_is) c.requires.plan in
     let made = subst (λ (v : ServiceValue). IsShorter v.served c.args.plan c.args.shorter) (sym c.self.view_is) c.requires.is in
     let link = c.self.invariant.linked in
-    subst (λ (v : ServiceValue). MayLetGo v.served (served_of c.shorten.new.self c.args.shorter.keys.last (Some c.args.shorter.told) s.lines))
+    subst (λ (v : ServiceValue). MayLetGo keep v.served (served_of c.shorten.new.self c.args.shorter.keys.last (Some c.args.shorter.told) s.lines))
     c.self.view_is
-    (inr (has_let_go s.site s.keys.last s.told s.lines link.stands link.let_go c.args.plan is c.args.shorter made c.shorten.new.self
+    (inr (has_let_go s.site s.keys.last s.told s.lines link.stands link.let_go c.args.plan is c.args.shorter made keep may c.shorten.new.self
     c.shorten.ensures.same))
 
 pub invariant_of-self-in-Err-Refused : goal.invariant_of-self-in-Err-Refused
@@ -63,15 +64,16 @@ invariant_of-self-in-Err-Failed g c =
     (g.F.LogFile.safe c.replace.new.self)
 
 pub returns-clause-safe : goal.returns-clause-safe
-returns-clause-safe g c =
+returns-clause-safe g c = λ keep can.
     let s = c.self.inside in
+    let may = subst (λ (v : ServiceValue). CanGo (held_in v.served) keep c.args.plan.gone) (sym c.self.view_is) can in
     let is = subst (λ (v : ServiceValue). IsShortening (site_of v.served) c.args.plan) (sym c.self.view_is) c.requires.plan in
     let made = subst (λ (v : ServiceValue). IsShorter v.served c.args.plan c.args.shorter) (sym c.self.view_is) c.requires.is in
     let link = c.self.invariant.linked in
     let was = subst IsSettled (sym c.self.view_is) c.requires.settled in
     let copied : c.as_slice.result.now ≡ c.args.shorter.text.items = c.as_slice.ensures.value in
-    subst (λ (v : ServiceValue). LeavesEither v.served (g.F.LogFile.safe c.replace.new.self)) c.self.view_is
-    (leaves_either s.site s.keys.last s.told s.lines link.stands link.let_go c.args.plan is c.args.shorter made (g.F.LogFile.safe s.log)
+    subst (λ (v : ServiceValue). LeavesEither keep v.served (g.F.LogFile.safe c.replace.new.self)) c.self.view_is
+    (leaves_either s.site s.keys.last s.told s.lines link.stands link.let_go c.args.plan is c.args.shorter made keep may (g.F.LogFile.safe s.log)
     (g.F.LogFile.safe c.replace.new.self) (settled_text _ was)
     (left_by (g.F.LogFile.safe s.log) (g.F.LogFile.safe c.replace.new.self) c.as_slice.result.now c.args.shorter.text.items copied
     (c.in-Err-Failed.ensures.failed c.in-Err-Failed.field-0-is)))
