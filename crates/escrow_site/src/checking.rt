@@ -5,7 +5,7 @@ ghost use Rattle.std.specs.Prelude.{◌≡◌, length};
 use field_bounds::{FieldNo, Schema};
 use folder_faults::Fault;
 use std::io;
-use world_folders::{World, checked_states, read_world};
+use world_folders::{WorldFolders, checked_states, read_world};
 use world_logs::FieldState;
 
 // Shows where each field stands.
@@ -26,7 +26,7 @@ fn show_states(rt: &impl Print, schema: &Schema, states: &[FieldState]) -> io::R
 }
 
 // Shows a world whose logs account for every right.
-fn show_world(rt: &impl Print, world: &World, states: &[FieldState]) -> io::Result<()>
+fn show_world(rt: &impl Print, world: &WorldFolders, states: &[FieldState]) -> io::Result<()>
     requires count { length states.now ≡ length world.now.schema.fields }
 {
     println!(rt; "world {}", world.name)?;

@@ -13,7 +13,7 @@ use std::io;
 use std::io::ErrorKind;
 use std::os::unix::fs::FileExt;
 use trace_windows::{ReadAt, TraceWindow, TraceWindows, WindowFault};
-use world_folders::{SiteFolder, World, read_kept_entries, read_world, tell_reading};
+use world_folders::{SiteFolder, WorldFolders, read_kept_entries, read_world, tell_reading};
 use woven_verdict::{Verdict, VerdictFault, judge_histories, verdict_line};
 
 /// How many bytes of a trace are read at a time.
@@ -90,7 +90,7 @@ fn open_trace(rt: &HostRuntime, folder: &SiteFolder) -> Result<TraceWindow<HostT
 // The traces of all sites, each at its first entry.
 fn open_traces<'a>(
     rt: &HostRuntime,
-    world: &'a World,
+    world: &'a WorldFolders,
 ) -> Result<TraceWindows<'a, HostTrace>, Fault> {
     let alloc = rt.alloc();
     let mut piece = vec![in alloc; 0u8; PIECE]?;
@@ -110,7 +110,11 @@ fn open_traces<'a>(
 }
 
 // Why a trace wasn't read on.
-fn why_unread(alloc: Global, world: &World, windows: &mut TraceWindows<'_, HostTrace>) -> Fault {
+fn why_unread(
+    alloc: Global,
+    world: &WorldFolders,
+    windows: &mut TraceWindows<'_, HostTrace>,
+) -> Fault {
     let Some((site, fault)) = windows.fault() else {
         return Fault::Read;
     };
@@ -124,7 +128,7 @@ fn why_unread(alloc: Global, world: &World, windows: &mut TraceWindows<'_, HostT
 }
 
 // The verdict on the woven trace of all sites, and how many entries were judged for it.
-fn judge_sites(rt: &HostRuntime, world: &World) -> Result<(Verdict, u64), Fault> {
+fn judge_sites(rt: &HostRuntime, world: &WorldFolders) -> Result<(Verdict, u64), Fault> {
     let alloc = rt.alloc();
     let mut windows = open_traces(rt, world)?;
     match judge_histories(alloc, &world.schema, &mut windows) {

@@ -9,11 +9,11 @@ mod creating;
 mod judging;
 mod linked;
 mod locking;
-mod part_fault;
-mod parts;
 mod serving;
 mod settling;
 mod showing;
+mod streams;
+mod told_swap;
 mod tracing;
 mod unsynced;
 mod verifying;
@@ -75,12 +75,18 @@ fn tell_refused(rt: &(impl Print + Eprint), error: &Error) -> u8 {
     if error.use_stderr() { 2 } else { 0 }
 }
 
+// Carries a task out, once no file that it opens can take the number of a standard stream.
+fn in_order(rt: &HostRuntime, task: &Task) -> Result<u8, Fault> {
+    streams::take_closed(rt)?;
+    carry_out(rt, task)
+}
+
 fn main(rt: HostRuntime) -> ExitCode {
     let task = match read_task(&rt) {
         Ok(task) => task,
         Err(error) => return ExitCode::from(tell_refused(&rt, &error)),
     };
-    match carry_out(&rt, &task) {
+    match in_order(&rt, &task) {
         Ok(status) => ExitCode::from(status),
         Err(fault) => ExitCode::from(tell(&rt, &fault)),
     }

@@ -5,6 +5,7 @@ use crate::closing::{is_settled, settled_fault};
 use crate::creating::sync_site;
 use crate::linked::paths_of;
 use crate::locking::lock_log;
+use crate::told_swap::{Notices, ToldSwap};
 use crate::tracing::trace_for;
 use crate::unsynced::UnsyncedFile;
 use file_medium::{HostFile, LogFile};
@@ -172,16 +173,17 @@ fn serve_files<F: TellsSwap, T: TellsFault>(
     }
 }
 
-// The log, which another file can take the place of. One that a stop left there before is removed.
+// The log, which another file can take the place of, and which tells people where none can. One that a
+// stop left there before is removed.
 fn swap_of<'a>(
     rt: &'a HostRuntime,
-    paths: &Paths,
+    paths: &'a Paths,
     file: HostFile,
     syncs: LogSyncs,
-) -> Result<HostSwap<'a, HostRuntime>, Fault> {
+) -> Result<ToldSwap<'a>, Fault> {
     let swap = HostSwap::new(rt.alloc(), rt, paths.log.as_str(), file, syncs)?;
     match swap.remove_left() {
-        Ok(()) => Ok(swap),
+        Ok(()) => Ok(ToldSwap::new(swap, Notices::new(rt, paths))),
         Err(error) => {
             let path = format!(in rt.alloc(); "{}.new", paths.log)?;
             Err(failed(rt.alloc(), path.as_str(), error))

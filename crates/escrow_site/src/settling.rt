@@ -10,11 +10,11 @@ use sealed_log::end_all;
 use site_tasks::Settling;
 use std::alloc::{AllocError, Global};
 use std::io;
-use world_folders::{World, lost_sites, ranges_of, read_world, settled_header};
+use world_folders::{WorldFolders, lost_sites, ranges_of, read_world, settled_header};
 use world_logs::FieldRange;
 
 // Settles the world by the logs of all sites.
-fn settle_logs(rt: &HostRuntime, world: &World) -> Result<(), Fault> {
+fn settle_logs(rt: &HostRuntime, world: &WorldFolders) -> Result<(), Fault> {
     let header = settled_header(rt, rt.alloc(), world)?;
     match println!(rt; "{header}") {
         Ok(()) => Ok(()),
@@ -48,7 +48,7 @@ fn numbers_of(alloc: Global, sites: &[SiteNo]) -> Result<String, AllocError> {
 }
 
 // Shows between which values each field lies by the logs that are there, and tells which are lost.
-fn bound_logs(rt: &HostRuntime, world: &World, lost: &[SiteNo]) -> Result<(), Fault> {
+fn bound_logs(rt: &HostRuntime, world: &WorldFolders, lost: &[SiteNo]) -> Result<(), Fault> {
     let ranges = ranges_of(rt, rt.alloc(), world, lost)?;
     match show_ranges(rt, &world.schema, ranges.as_slice()) {
         Ok(()) => Err(Fault::LogsLost(numbers_of(rt.alloc(), lost)?)),
@@ -58,7 +58,10 @@ fn bound_logs(rt: &HostRuntime, world: &World, lost: &[SiteNo]) -> Result<(), Fa
 
 // The folders of all sites, whose logs are locked as long as these live: so none is served meanwhile,
 // nor was when they were locked.
-fn lock_folders<'a>(rt: &'a HostRuntime, world: &'a World) -> Result<Vec<LockedFolder<'a>>, Fault> {
+fn lock_folders<'a>(
+    rt: &'a HostRuntime,
+    world: &'a WorldFolders,
+) -> Result<Vec<LockedFolder<'a>>, Fault> {
     let mut locked = Vec::new(rt.alloc());
     for number in 0..world.schema.sites() {
         let folder = world.named_folder(SiteNo(number))?;
@@ -69,7 +72,7 @@ fn lock_folders<'a>(rt: &'a HostRuntime, world: &'a World) -> Result<Vec<LockedF
 }
 
 // Whether all folders were closed before.
-fn are_settled(rt: &HostRuntime, world: &World) -> Result<bool, Fault> {
+fn are_settled(rt: &HostRuntime, world: &WorldFolders) -> Result<bool, Fault> {
     for number in 0..world.schema.sites() {
         let folder = world.named_folder(SiteNo(number))?;
         if !is_settled(rt, &folder.paths)? {
@@ -81,7 +84,7 @@ fn are_settled(rt: &HostRuntime, world: &World) -> Result<bool, Fault> {
 
 // Settles a world no log of which is lost: where its header was written, its folders are closed, so that
 // nothing of it is sold once more.
-fn end_world(rt: &HostRuntime, world: &World, how: Settling) -> Result<(), Fault> {
+fn end_world(rt: &HostRuntime, world: &WorldFolders, how: Settling) -> Result<(), Fault> {
     if how.is_dry {
         return settle_logs(rt, world);
     }

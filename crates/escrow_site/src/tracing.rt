@@ -2,7 +2,7 @@
 
 use crate::locking::file_fault;
 use file_medium::{HostFile, Opening, open_log};
-use folder_faults::{Fault, Why, failed, refused};
+use folder_faults::{Fault, Missing, Why, failed, refused};
 use site_folder::{Identity, trace_name};
 use std::fs::File;
 use std::io::Write;
@@ -48,7 +48,7 @@ fn has_trace(rt: &HostRuntime, paths: &Paths) -> Result<bool, Fault> {
 fn open_trace(rt: &HostRuntime, paths: &Paths) -> Result<HostFile, Fault> {
     match open_log(rt, paths.trace.as_str(), Opening::Existing) {
         Ok(file) => Ok(file),
-        Err(fault) => Err(file_fault(rt.alloc(), paths.trace.as_str(), fault, Why::NoTrace)),
+        Err(fault) => Err(file_fault(rt.alloc(), paths.trace.as_str(), fault, Missing::Trace)),
     }
 }
 

@@ -8,7 +8,7 @@ use folder_faults::Fault;
 use script_input::{Sink, Watched};
 use std::alloc::{AllocError, Global};
 use trace_weave::{WeaveFault, WovenEntries, weave_order};
-use world_folders::{World, read_histories, read_world};
+use world_folders::{WorldFolders, read_histories, read_world};
 
 /// How many bytes gather before they are written.
 const PIECE: usize = 65_536;
@@ -46,7 +46,7 @@ fn write_piece<W: Sink>(writer: &mut W, text: &mut Vec<u8>) -> Result<(), Fault>
 fn write_trace<W: Sink>(
     alloc: Global,
     writer: &mut W,
-    world: &World,
+    world: &WorldFolders,
     trace: WovenEntries<'_>,
 ) -> Result<(), Fault> {
     let mut text = Vec::from_slice(alloc, world.header.as_slice())?;
@@ -61,7 +61,7 @@ fn write_trace<W: Sink>(
 }
 
 // Weaves the sites, and writes the trace.
-fn weave_sites(rt: &HostRuntime, world: &World) -> Result<(), Fault> {
+fn weave_sites(rt: &HostRuntime, world: &WorldFolders) -> Result<(), Fault> {
     let alloc = rt.alloc();
     let histories = read_histories(rt, alloc, world)?;
     let order = order_of(alloc, histories.as_slice())?;

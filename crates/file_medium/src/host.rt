@@ -41,6 +41,13 @@ impl HostFile {
     pub fn take_fault(&mut self) -> Option<FileFault> {
         self.last_fault.take()
     }
+
+    /// Whether a path is that of this file: no more where the file, or a folder on its path, was moved,
+    /// or another file was put there. The error is that of the system, also where nothing is there.
+    /// Costs no memory.
+    pub fn is_at<R: Files<File = File>>(&self, rt: &R, path: &str) -> io::Result<bool> {
+        is_at(rt, path, &self.file)
+    }
 }
 
 impl LogFile for HostFile {

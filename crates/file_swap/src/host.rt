@@ -7,6 +7,7 @@ use file_medium::{FileFailed, FileFault, HostFile, LogFile, OpenLogFault, Openin
 use std::alloc::{AllocError, Global};
 use std::fs::{self, File, Files};
 use std::io::{self, ErrorKind};
+use std::os::unix::fs::{MetadataExt, chown};
 use std::path::Path;
 
 /// Whether the syncs of a log are made.
@@ -22,7 +23,7 @@ pub enum LogSyncs {
 /// A step in which a new file takes the place of a log.
 #[derive(Clone, Copy, Debug, PartialEq, Eq)]
 pub enum SwapStep {
-    /// The new file is made and locked.
+    /// The new file is made and locked, and gets the modes of the log, and its owner.
     Begin,
     Write,
     Sync,
@@ -32,8 +33,8 @@ pub enum SwapStep {
     SyncFolder,
 }
 
-/// A step that failed, and what the system told of it: None where another has the new file locked, or
-/// none was begun.
+/// A step that failed, and what the system told of it: None where another has the new file locked, none
+/// was begun, or the log isn't at its path any more.
 #[derive(Debug, Drop)]
 pub struct SwapFault {
     pub step: SwapStep,
@@ -49,6 +50,11 @@ pub struct SwapFault {
 ///
 /// - a new file that a stop or a refusal has left is removed, and the new one is made and locked by
 ///   `open_log` before anything is written to it, so that it is locked when it gets the name of the log;
+/// - it has the modes of the log before anything is written to it, and its owner where the system lets
+///   the process give that;
+/// - nothing is made or put at the path where that isn't the log's any more: a folder that was moved, or a
+///   link that was turned, may have another site's log there;
+/// - where a step fails the new file is removed, since it may hold the room that the log wants;
 /// - it is synced, also where the syncs of the log are left out: else a stop of the machine could leave
 ///   an empty log;
 /// - it gets the name of the log by one `rename`, once the folder was opened, and the folder is synced
@@ -117,18 +123,62 @@ impl<'a, R: Files<File = File>> HostSwap<'a, R> {
         FileFailed
     }
 
-    // A new file with nothing in it, locked.
-    fn make_new(&self) -> Result<HostFile, OpenLogFault> {
-        self.remove_left()?;
-        open_log(self.rt, self.new_path.as_str(), Opening::New)
+    // Whether the log is at its path still: no more where it, or a folder on its path, was moved. Another
+    // log may be there then.
+    fn is_in_place(&self) -> bool {
+        matches!(self.file.is_at(self.rt, self.path.as_str()), Ok(true))
     }
 
-    // Notes a call of the new file that failed.
+    // A new file with nothing in it, locked, which those may read and write that may the log.
+    fn make_new(&self) -> Result<HostFile, OpenLogFault> {
+        self.remove_left()?;
+        let new = open_log(self.rt, self.new_path.as_str(), Opening::New)?;
+        match self.give_access() {
+            Ok(()) => Ok(new),
+            Err(error) => {
+                self.remove_new(&new);
+                Err(OpenLogFault::System(error))
+            }
+        }
+    }
+
+    // The new file gets the modes of the log, where it hasn't them; and its owner, where the system lets
+    // this process give it away.
+    fn give_access(&self) -> io::Result<()> {
+        let log = fs::metadata(self.rt, self.path.as_str())?;
+        let new = fs::metadata(self.rt, self.new_path.as_str())?;
+        if (new.uid(), new.gid()) != (log.uid(), log.gid()) {
+            let (owner, group) = (Some(log.uid()), Some(log.gid()));
+            let _ = chown(self.rt, self.new_path.as_str(), owner, group);
+        }
+        if new.permissions() == log.permissions() {
+            return Ok(());
+        }
+        fs::set_permissions(self.rt, self.new_path.as_str(), log.permissions())
+    }
+
+    // Removes a new file that won't take the place of the log, since it holds room that the log may want.
+    // Where that fails it stays until the next start, or the next new file.
+    fn remove_new(&self, new: &HostFile) {
+        if let Ok(true) = new.is_at(self.rt, self.new_path.as_str()) {
+            let _ = self.remove_left();
+        }
+    }
+
+    // Gives the new file up, where there is one.
+    fn give_up(&mut self) {
+        if let Some(new) = self.beside.take() {
+            self.remove_new(&new);
+        }
+    }
+
+    // Notes a call of the new file that failed, and gives it up.
     fn note_new(&mut self, step: SwapStep) -> FileFailed {
         let error = match &mut self.beside {
             Some(new) => new.take_fault(),
             None => None,
         };
+        self.give_up();
         match error {
             Some(fault) => self.note(step, Some(fault.error)),
             None => self.note(step, None),
@@ -169,7 +219,10 @@ impl<'a, R: Files<File = File>> Replaceable for HostSwap<'a, R> {
     ghost beside_safe = { λ f. None };
 
     fn begin_beside(&mut self) -> Result<(), FileFailed> {
-        self.beside = None;
+        self.give_up();
+        if !self.is_in_place() {
+            return Err(self.note(SwapStep::Begin, None));
+        }
         match self.make_new() {
             Ok(new) => {
                 self.beside = Some(new);
@@ -203,6 +256,11 @@ impl<'a, R: Files<File = File>> Replaceable for HostSwap<'a, R> {
             self.note(SwapStep::Put, None);
             return Err(PutFault::Refused);
         };
+        if !self.is_in_place() {
+            self.remove_new(&new);
+            self.note(SwapStep::Put, None);
+            return Err(PutFault::Refused);
+        }
         let renamed = match File::open(self.rt, folder_of(self.path.as_str())) {
             Ok(folder) => rename(self.rt, self.new_path.as_str(), self.path.as_str(), folder),
             Err(error) => Err(error),
@@ -210,6 +268,7 @@ impl<'a, R: Files<File = File>> Replaceable for HostSwap<'a, R> {
         let folder = match renamed {
             Ok(folder) => folder,
             Err(error) => {
+                self.remove_new(&new);
                 self.note(SwapStep::Put, Some(error));
                 return Err(PutFault::Refused);
             }

@@ -72,6 +72,24 @@ pub enum Why {
     },
 }
 
+/// A file of a folder that isn't there.
+#[derive(Clone, Copy)]
+pub enum Missing {
+    Site,
+    Log,
+    Trace,
+}
+
+impl From<Missing> for Why {
+    fn from(file: Missing) -> Why {
+        match file {
+            Missing::Site => Why::NoSite,
+            Missing::Log => Why::NoLog,
+            Missing::Trace => Why::NoTrace,
+        }
+    }
+}
+
 /// Why a task ends before it is done. A text names the file.
 #[derive(Debug, Drop, Error)]
 pub enum Fault {

@@ -5,5 +5,6 @@
 mod fault;
 
 pub use fault::{
-    Fault, Why, asked, device_fault, failed, header_words, not_closed, refused, unread, with_call,
+    Fault, Missing, Why, asked, device_fault, failed, header_words, not_closed, refused, unread,
+    with_call,
 };

@@ -1,5 +1,5 @@
 -- What the command `serve` refuses and lets out (this project).
-use Rattle.std.specs.Prelude.{◌≡◌, ◌≢◌, ◌⊎◌, ℕ, Bool, true, false, List, [], ◌∷◌, ◌++◌, codes, Option, None, Some}
+use Rattle.std.specs.Prelude.{◌≡◌, ◌≢◌, ◌⊎◌, ℕ, Bool, true, false, List, [], ◌∷◌, ◌++◌, codes, Option, None, Some, is_some}
 use Rattle.std.specs.Fmt.{decimal}
 use Rattle.std.specs.Io.KnownBytes.{Appends, IsAtEnd}
 use Rattle.field_bounds.specs.Schema.{SchemaValue}
@@ -14,7 +14,7 @@ use Rattle.site_service.specs.Answers.{held_in}
 use Rattle.site_service.specs.Behind.{IsOpenedBehind}
 use Rattle.site_service.specs.Opening.{IsOpened}
 use Rattle.site_service.specs.Service.{ServiceValue, IsSettled}
-use Rattle.site_service.specs.Serving.{Serves, Stops, StopsAtOnce}
+use Rattle.line_serving.specs.Serving.{Serves, Stops, StopsAtOnce}
 use Rattle.site_service.specs.Traces.{TraceValue}
 use Rattle.world_folders.specs.Logs.{HaveCome, IsStandRead}
 use Rattle.world_folders.specs.Reading.{IsRead}
@@ -71,33 +71,33 @@ StopsAtReady shortens before after service =
 
 -- ---- the whole input
 
--- That line was written, and behind it what a service lets out that serves the input to its end, and shortens its log meanwhile or
--- doesn't.
-pub record ServesReady (shortens : Bool) (from to before after : Option (List ℕ)) (trace traced : TraceValue) (start now : ServiceValue)
+-- That line was written, and behind it what a service lets out that serves the input to its end, and never shortens its log, or does so
+-- meanwhile and keeps so many bytes.
+pub record ServesReady (keep : Option ℕ) (from to before after : Option (List ℕ)) (trace traced : TraceValue) (start now : ServiceValue)
     : Type 0 where
   pub ready : Option (List ℕ)
-  pub told : TellsReady shortens before ready start
-  pub serves : Serves shortens from to ready after trace traced start now
+  pub told : TellsReady (is_some keep) before ready start
+  pub serves : Serves keep from to ready after trace traced start now
   pub ended : IsAtEnd to
 
 -- A fault ended it behind that line: what was written is what a service lets out at that fault.
-pub record StopsBehind (shortens : Bool) (from to before after : Option (List ℕ)) (trace traced : TraceValue) (start now : ServiceValue)
+pub record StopsBehind (keep : Option ℕ) (from to before after : Option (List ℕ)) (trace traced : TraceValue) (start now : ServiceValue)
     : Type 0 where
   pub ready : Option (List ℕ)
-  pub told : TellsReady shortens before ready start
+  pub told : TellsReady (is_some keep) before ready start
   pub fault : ServeFault
-  pub stops : StopsAtOnce from to ready after trace traced start now fault ⊎ Stops shortens from to ready after trace traced start now fault
+  pub stops : StopsAtOnce from to ready after trace traced start now fault ⊎ Stops keep from to ready after trace traced start now fault
 
 -- The line wasn't written whole: then nothing was read, nothing traced, and the service is as it was.
-pub record StopsInFront (shortens : Bool) (from to before after : Option (List ℕ)) (trace traced : TraceValue) (start now : ServiceValue)
+pub record StopsInFront (keep : Option ℕ) (from to before after : Option (List ℕ)) (trace traced : TraceValue) (start now : ServiceValue)
     : Type 0 where
   pub unread : to ≡ from
-  pub written : StopsAtReady shortens before after start
+  pub written : StopsAtReady (is_some keep) before after start
   pub untold : traced ≡ trace
   pub same : now ≡ start
 
 -- A fault ended it, in front of that line's end or behind it.
-abbrev pub StopsReady : Bool → Option (List ℕ) → Option (List ℕ) → Option (List ℕ) → Option (List ℕ) → TraceValue → TraceValue
+abbrev pub StopsReady : Option ℕ → Option (List ℕ) → Option (List ℕ) → Option (List ℕ) → Option (List ℕ) → TraceValue → TraceValue
     → ServiceValue → ServiceValue → Type 0
-StopsReady shortens from to before after trace traced start now =
-    StopsInFront shortens from to before after trace traced start now ⊎ StopsBehind shortens from to before after trace traced start now
+StopsReady keep from to before after trace traced start now =
+    StopsInFront keep from to before after trace traced start now ⊎ StopsBehind keep from to before after trace traced start now

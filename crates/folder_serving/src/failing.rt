@@ -41,24 +41,6 @@ fn trace_fault(alloc: Global, paths: &Paths, failed: FileFault) -> Fault {
     with_call(device_fault(alloc, paths.trace.as_str()), Some(failed))
 }
 
-/// Why the serving ended over a log of closed batches: where no call of a file failed, memory was
-/// wanting for a batch.
-pub fn sealed_fault<T: TellsFault>(
-    alloc: Global,
-    paths: &Paths,
-    fault: Fault,
-    is_lost: bool,
-    trace: &mut Option<T>,
-) -> Fault {
-    match fault {
-        Fault::Device(_) if !is_lost => match trace_call(trace) {
-            Some(failed) => trace_fault(alloc, paths, failed),
-            None => Fault::NoMemory,
-        },
-        fault => fault,
-    }
-}
-
 // The sync of the folder that failed once another file had the log's name. A step before that is no
 // fault: the log is as it was then.
 fn folder_call<F: TellsSwap>(file: &mut F) -> Option<FileFault> {

@@ -6,6 +6,6 @@ mod failing;
 mod opening;
 mod serving;
 
-pub use failing::{TellsSwap, sealed_fault, short_fault, told_fault};
+pub use failing::{TellsSwap, short_fault, told_fault};
 pub use opening::{gone_of, open_named, open_short};
 pub use serving::{check_age, keep_streams, open_service, refuse_plain, serve_streams};

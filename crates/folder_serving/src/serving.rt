@@ -1,6 +1,6 @@
 //! A site served over the log of its folder: from the first line of all to the end of the input.
 
-ghost use Rattle.std.specs.Prelude.{◌≡◌, ◌≢◌, ◌++◌, ℕ, List, false, true, IfOk, OnOk, OnErr, MatchOption, string_bytes};
+ghost use Rattle.std.specs.Prelude.{◌≡◌, ◌≢◌, ◌++◌, ℕ, List, IfOk, OnOk, OnErr, MatchOption, None, Some, string_bytes};
 ghost use Rattle.script_input.specs.Streams.{GaveNothing};
 ghost use Rattle.site_service.specs.Behind.{IsOpenedBehind};
 ghost use Rattle.site_service.specs.Opening.{IsOpened, KeepsLines, SparesLines};
@@ -9,14 +9,15 @@ ghost use Rattle.site_service.specs.Traces.{trace_of, HasTold};
 ghost use Rattle.folder_serving.specs.Serving.{IsNoOlder, IsNoPlain, IsOpenedOver, IsReadyLine, ServesReady, StopsAtReady, StopsReady, TellsReady, ready_text, version_of};
 
 use file_medium::LogFile;
-use folder_faults::{Fault, Why, device_fault, refused};
+use folder_faults::{Fault, Missing, Why, device_fault, refused};
 use held_logs::stand_held;
+use line_serving::{serve, serve_keeping};
 use log_head::Gone;
 use log_stand::Stand;
 use script_input::{Sink, Source};
 use short_log::ShortLog;
 use site_folder::{Identity, log_name};
-use site_service::{OpenFault, ServeFault, Service, serve, serve_keeping};
+use site_service::{OpenFault, ServeFault, Service};
 use std::alloc::Global;
 use world_folders::{Paths, ReadsFiles, read_file, read_stand};
 
@@ -61,7 +62,7 @@ pub fn refuse_plain<R: ReadsFiles>(
         identity.now) }
 {
     let name = log_name(alloc, identity)?;
-    let bytes = read_file(files, alloc, paths.log.as_str(), Why::NoLog)?;
+    let bytes = read_file(files, alloc, paths.log.as_str(), Missing::Log)?;
     match behind(bytes.as_slice(), name.as_slice()) {
         Some(_) => Err(refused(alloc, paths.log.as_str(), Why::Plain)),
         None => Ok(()),
@@ -244,11 +245,11 @@ pub fn serve_streams<F: LogFile, T: LogFile, R: Source, W: Sink>(
     writer: &mut W,
 ) -> Result<(), Fault>
     requires safe { IsSettled service.old }
-    ensures ok { OnOk result (ServesReady false (R.bytes reader.old) (R.bytes reader.new)
+    ensures ok { OnOk result (ServesReady None (R.bytes reader.old) (R.bytes reader.new)
         (W.bytes writer.old) (W.bytes writer.new) (trace_of (T.bytes trace.old) (T.safe trace.old))
         (trace_of (T.bytes trace.new) (T.safe trace.new)) service.old service.new) }
     ensures end { OnOk result (GaveNothing (R.last reader.new)) }
-    ensures err { OnErr result (StopsReady false (R.bytes reader.old) (R.bytes reader.new)
+    ensures err { OnErr result (StopsReady None (R.bytes reader.old) (R.bytes reader.new)
         (W.bytes writer.old) (W.bytes writer.new) (trace_of (T.bytes trace.old) (T.safe trace.old))
         (trace_of (T.bytes trace.new) (T.safe trace.new)) service.old service.new) }
     ensures least { service.new.least ≡ service.old.least }
@@ -261,8 +262,8 @@ pub fn serve_streams<F: LogFile, T: LogFile, R: Source, W: Sink>(
     }
 }
 
-/// The same over a log whose front is let go meanwhile, as `serve_keeping` does it: what stays of it are
-/// at least so many bytes.
+/// The same over a log whose front is let go meanwhile, as `serve_keeping` does it: each time a summary
+/// stays, and behind its line at least `keep` bytes and another summary.
 pub fn keep_streams<F: ShortLog, T: LogFile, R: Source, W: Sink>(
     alloc: Global,
     paths: &Paths,
@@ -273,11 +274,11 @@ pub fn keep_streams<F: ShortLog, T: LogFile, R: Source, W: Sink>(
     keep: usize,
 ) -> Result<(), Fault>
     requires safe { IsSettled service.old }
-    ensures ok { OnOk result (ServesReady true (R.bytes reader.old) (R.bytes reader.new)
+    ensures ok { OnOk result (ServesReady (Some keep) (R.bytes reader.old) (R.bytes reader.new)
         (W.bytes writer.old) (W.bytes writer.new) (trace_of (T.bytes trace.old) (T.safe trace.old))
         (trace_of (T.bytes trace.new) (T.safe trace.new)) service.old service.new) }
     ensures end { OnOk result (GaveNothing (R.last reader.new)) }
-    ensures err { OnErr result (StopsReady true (R.bytes reader.old) (R.bytes reader.new)
+    ensures err { OnErr result (StopsReady (Some keep) (R.bytes reader.old) (R.bytes reader.new)
         (W.bytes writer.old) (W.bytes writer.new) (trace_of (T.bytes trace.old) (T.safe trace.old))
         (trace_of (T.bytes trace.new) (T.safe trace.new)) service.old service.new) }
     ensures uncut { T.least trace.new ≡ T.least trace.old }

@@ -55,11 +55,17 @@ fn head_in(alloc: Global, identity: &Identity, bytes: &[u8]) -> Result<FoundHead
     }
 }
 
-// The head of the file, found by one look at its first bytes, or None where they don't tell.
-fn head_at_once<F: LogFile>(alloc: Global, identity: &Identity, file: &mut F) -> Option<FoundHead>
-    ensures name { IfSome result (λ found. found.name.items ≡ head_of identity.now found.gone) }
-    ensures own { IfSome result (λ found. AreGone found.gone) }
-    ensures begins { IfSome result (λ found. BeginsAs identity.now (F.bytes file.old) found.gone) }
+// The head of the file, found by one look at its first bytes, or None where they don't tell. The faults
+// are `Device` and `NoMemory`.
+fn head_at_once<F: LogFile>(
+    alloc: Global,
+    identity: &Identity,
+    file: &mut F,
+) -> Result<Option<FoundHead>, ShortFault>
+    ensures name { IfOk result (λ look. IfSome look (λ found. found.name.items ≡ head_of identity.now found.gone)) }
+    ensures own { IfOk result (λ look. IfSome look (λ found. AreGone found.gone)) }
+    ensures begins { IfOk result (λ look. IfSome look (λ found. BeginsAs identity.now (F.bytes file.old) found.gone)) }
+    ensures refused { IfErr result (Refuses identity.now (F.bytes file.old)) }
     ensures bytes { F.bytes file.new ≡ F.bytes file.old }
     ensures safe { F.safe file.new ≡ F.safe file.old }
     ensures least { F.least file.new ≡ F.least file.old }
@@ -67,11 +73,12 @@ fn head_at_once<F: LogFile>(alloc: Global, identity: &Identity, file: &mut F) ->
     let mut front = [0u8; FRONT];
     let count = match file.read_at(0, front.as_mut_slice()) {
         Ok(count) => count,
-        Err(_) => return None,
+        Err(_) => return Err(ShortFault::Device),
     };
     match head_in(alloc, identity, &front[..count]) {
-        Ok(found) => Some(found),
-        Err(_) => None,
+        Ok(found) => Ok(Some(found)),
+        Err(ShortFault::NoMemory) => Err(ShortFault::NoMemory),
+        Err(_) => Ok(None),
     }
 }
 
@@ -91,7 +98,7 @@ pub(crate) fn find_head<F: LogFile>(
     ensures safe { F.safe file.new ≡ F.safe file.old }
     ensures least { F.least file.new ≡ F.least file.old }
 {
-    if let Some(found) = head_at_once(alloc, identity, file) {
+    if let Some(found) = head_at_once(alloc, identity, file)? {
         return Ok(found);
     }
     match read_whole(alloc, file) {

@@ -5,7 +5,7 @@ use Rattle.site_folder.specs.Identity.{identity_text, world_name}
 use Rattle.folder_logs.specs.Beside.{GoBeside}
 use Rattle.world_folders.specs.declared.folder.Paths.{Paths}
 use Rattle.world_folders.specs.declared.worlds.SiteFolder.{SiteFolder}
-use Rattle.world_folders.specs.declared.worlds.World.{World}
+use Rattle.world_folders.specs.declared.worlds.WorldFolders.{WorldFolders}
 use Rattle.world_folders.specs.Reading.{IsRead}
 
 -- The path of a file of this name in a folder.
@@ -40,7 +40,7 @@ pub record AreSiteFolders (holds : List ℕ → List ℕ → Type 0) (named : Li
       → GoBeside (slice_index_or folders k d).identity (slice_index_or folders j e).identity
 
 -- The world is that of the folders that were named, of which there is one at least: its name, header and schema are those of the first.
-pub record IsWorldOf (holds : List ℕ → List ℕ → Type 0) (named : List (String Global)) (world : World) : Type 0 where
+pub record IsWorldOf (holds : List ℕ → List ℕ → Type 0) (named : List (String Global)) (world : WorldFolders) : Type 0 where
   pub folders : AreSiteFolders holds named world.folders.items
   pub first : SiteFolder
   pub is_first : slice_index_or world.folders.items 0 first ≡ first

@@ -183,7 +183,8 @@ pub record AreLogsOf (schema : SchemaValue) (texts : List LogText) (logs : List 
   pub each : (s : ℕ) (d : LogText) → s < schema.sites
       → AreRecordsOf schema s (slice_index_or texts s d).gone (slice_index_or texts s d).records (log_of logs s)
 
--- The logs were read; there are such logs, and whichever of them are the sites', each is lawful, and no site has accepted more than was given.
+-- The logs were read; there are such logs, and whichever of them are the sites', each is lawful, and no site has accepted more than was
+-- given.
 pub record AreSoundAsRead (holds : List ℕ → List ℕ → Type 0) (folders : List SiteFolder) (schema : SchemaValue) (texts : List LogText) : Type 0 where
   pub read : AreLogsRead holds folders schema texts
   pub some : (logs : List (List Record)) × AreLogsOf schema texts logs

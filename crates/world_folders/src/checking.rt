@@ -5,7 +5,7 @@ ghost use Rattle.world_folders.specs.Logs.{AccountsFor, AreOutcomesRead, IsOutco
 
 use crate::folder_log::{FolderReplay, bad_record, replay_folder};
 use crate::reading::ReadsFiles;
-use crate::worlds::World;
+use crate::worlds::WorldFolders;
 use field_bounds::{FieldNo, Kind, Schema, SiteNo};
 use folder_faults::{Fault, Why, refused};
 use log_replay::{LogReplayed, Standing};
@@ -17,7 +17,7 @@ use world_logs::{Excess, FieldState, WorldFault, check_standings, standings_or_f
 pub(crate) fn read_outcome<R: ReadsFiles>(
     files: &R,
     alloc: Global,
-    world: &World,
+    world: &WorldFolders,
     site: SiteNo,
 ) -> Result<Result<Standing, u64>, Fault>
     requires site_in { site.0 < world.now.schema.sites }
@@ -48,7 +48,7 @@ pub(crate) fn read_outcome<R: ReadsFiles>(
 fn read_outcomes<R: ReadsFiles>(
     files: &R,
     alloc: Global,
-    world: &World,
+    world: &WorldFolders,
 ) -> Result<Vec<Result<Standing, u64>>, Fault>
     ensures outcomes { IfOk result (λ outcomes. AreOutcomesRead (R.holds files.now)
         world.now.folders.items world.now.schema outcomes.items) }
@@ -65,7 +65,7 @@ fn read_outcomes<R: ReadsFiles>(
 pub(crate) fn read_standings<R: ReadsFiles>(
     files: &R,
     alloc: Global,
-    world: &World,
+    world: &WorldFolders,
 ) -> Result<Vec<Standing>, Fault>
     ensures stand { IfOk result (λ standings. StandAsRead (R.holds files.now)
         world.now.folders.items world.now.schema standings.items) }
@@ -94,7 +94,7 @@ fn kind_word(kind: Kind) -> &'static str {
 }
 
 // The fault that a site accepted more than was given, as a fault of the log of the site that gave.
-fn accepted_more(alloc: Global, world: &World, excess: Excess) -> Fault {
+fn accepted_more(alloc: Global, world: &WorldFolders, excess: Excess) -> Fault {
     let Ok(field) = String::from_str(alloc, name_of(&world.schema, excess.field)) else {
         return Fault::NoMemory;
     };
@@ -113,7 +113,7 @@ fn accepted_more(alloc: Global, world: &World, excess: Excess) -> Fault {
 }
 
 /// Why the logs of a world are refused, as a fault at one of them.
-pub(crate) fn logs_fault(alloc: Global, world: &World, fault: WorldFault) -> Fault {
+pub(crate) fn logs_fault(alloc: Global, world: &WorldFolders, fault: WorldFault) -> Fault {
     match fault {
         WorldFault::BreaksRule { site, number } => match world.named_folder(site) {
             Ok(folder) => bad_record(alloc, &folder.paths, number),
@@ -136,7 +136,7 @@ pub(crate) fn logs_fault(alloc: Global, world: &World, fault: WorldFault) -> Fau
 pub fn checked_states<R: ReadsFiles>(
     files: &R,
     alloc: Global,
-    world: &World,
+    world: &WorldFolders,
 ) -> Result<Vec<FieldState>, Fault>
     ensures count { IfOk result (λ states. length states.items
         ≡ length world.now.schema.fields) }

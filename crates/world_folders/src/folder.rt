@@ -6,7 +6,7 @@ ghost use Rattle.world_folders.specs.Folders.{ArePathsOf, path_in};
 ghost use Rattle.world_folders.specs.Reading.{IsRead};
 
 use crate::reading::ReadsFiles;
-use folder_faults::{Fault, Why, failed, header_words, refused};
+use folder_faults::{Fault, Missing, Why, failed, header_words, refused};
 use site_folder::{Identity, IdentityFault, read_identity};
 use std::alloc::{AllocError, Global};
 use std::io::ErrorKind;
@@ -59,13 +59,17 @@ pub fn read_file<R: ReadsFiles>(
     files: &R,
     alloc: Global,
     path: &str,
-    missing: Why,
+    missing: Missing,
 ) -> Result<Vec<u8>, Fault>
     ensures read { IfOk result (λ bytes. IsRead (R.holds files.now) path.now bytes.items) }
 {
     match files.read(path) {
         Ok(bytes) => Ok(bytes),
-        Err(error) if error.kind() == ErrorKind::NotFound => Err(refused(alloc, path, missing)),
+        Err(error) if error.kind() == ErrorKind::NotFound => Err(refused(
+            alloc,
+            path,
+            Why::from(missing),
+        )),
         Err(error) => Err(failed(alloc, path, error)),
     }
 }
@@ -89,7 +93,7 @@ pub fn read_site<R: ReadsFiles>(files: &R, alloc: Global, paths: &Paths) -> Resu
     ensures read { IfOk result (λ identity. IsRead (R.holds files.now)
         (string_bytes paths.now.site) (identity_text identity)) }
 {
-    let text = read_file(files, alloc, paths.site.as_str(), Why::NoSite)?;
+    let text = read_file(files, alloc, paths.site.as_str(), Missing::Site)?;
     match read_identity(alloc, text.as_slice()) {
         Ok(identity) => Ok(identity),
         Err(fault) => match why_refused(fault) {

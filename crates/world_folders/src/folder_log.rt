@@ -8,7 +8,7 @@ ghost use Rattle.world_folders.specs.Logs.{CountsLog, IsStandRead, LacksBase, Re
 use crate::folder::{Paths, read_file};
 use crate::reading::ReadsFiles;
 use field_bounds::{Schema, SiteNo};
-use folder_faults::{Fault, Why, refused};
+use folder_faults::{Fault, Missing, Why, refused};
 use held_logs::{HeldFault, HeldLog, count_held, read_held, replay_held, stand_held};
 use kept_records::LogCount;
 use log_head::Gone;
@@ -27,15 +27,6 @@ pub(crate) fn bad_record(alloc: Global, paths: &Paths, line: u64) -> Fault {
 /// being 1.
 pub fn damaged_line(alloc: Global, paths: &Paths, line: u64) -> Fault {
     refused(alloc, paths.log.as_str(), Why::DamagedBatch(line))
-}
-
-// How many lines the name of a log of version 2 has.
-const NAME_LINES: u64 = 5;
-
-/// The fault that a batch of a log of version 2 is damaged, which begins at this line behind its name,
-/// the first there being 1.
-pub fn damaged_batch(alloc: Global, paths: &Paths, line: u64) -> Fault {
-    damaged_line(alloc, paths, line.saturating_add(NAME_LINES))
 }
 
 /// What the file of a log holds, of any version: the records, and what a head tells to be gone. The
@@ -105,7 +96,7 @@ pub fn count_records<R: ReadsFiles>(
     ensures counted { IfOk result (CountsLog (R.holds files.now) (string_bytes paths.now.log)
         identity.now) }
 {
-    let bytes = read_file(files, alloc, paths.log.as_str(), Why::NoLog)?;
+    let bytes = read_file(files, alloc, paths.log.as_str(), Missing::Log)?;
     let held = held_in(alloc, paths, identity, bytes.as_slice())?;
     let count = count_held(alloc, &held.gone, held.records.as_slice())?;
     if lacks_base(&held.gone, &count) {
@@ -129,7 +120,7 @@ pub fn read_stand<R: ReadsFiles>(
     ensures stand { IfOk result (IsStandRead (R.holds files.now) (string_bytes paths.now.log)
         identity.now) }
 {
-    let bytes = read_file(files, alloc, paths.log.as_str(), Why::NoLog)?;
+    let bytes = read_file(files, alloc, paths.log.as_str(), Missing::Log)?;
     let held = held_in(alloc, paths, identity, bytes.as_slice())?;
     Ok(stand_held(alloc, &held.gone, held.records.as_slice())?)
 }
@@ -157,7 +148,7 @@ pub(crate) fn replay_folder<R: ReadsFiles>(
     ensures replayed { IfOk result (ReplaysLog (R.holds files.now) (string_bytes paths.now.log)
         identity.now schema.now site.0) }
 {
-    let bytes = read_file(files, alloc, paths.log.as_str(), Why::NoLog)?;
+    let bytes = read_file(files, alloc, paths.log.as_str(), Missing::Log)?;
     let HeldLog { gone, records } = held_in(alloc, paths, identity, bytes.as_slice())?;
     let came = replay_held(alloc, schema, site, &gone, records.as_slice())?;
     Ok(FolderReplay { gone, came })

@@ -16,7 +16,7 @@ mod worlds;
 
 pub use checking::checked_states;
 pub use folder::{Paths, read_file, read_site};
-pub use folder_log::{count_records, damaged_batch, damaged_line, held_in, read_stand};
+pub use folder_log::{count_records, damaged_line, held_in, read_stand};
 pub use progress::tell_reading;
 pub use reading::ReadsFiles;
 pub use settling::{lost_sites, ranges_of, settled_header};
@@ -24,4 +24,4 @@ pub use showing::{Shown, read_records};
 pub use tells_fault::TellsFault;
 pub use tracing::{TraceCut, cut_back, read_cut, read_kept_entries};
 pub use weaving::read_histories;
-pub use worlds::{SiteFolder, World, read_world};
+pub use worlds::{SiteFolder, WorldFolders, read_world};

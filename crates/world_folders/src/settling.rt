@@ -7,7 +7,7 @@ ghost use Rattle.world_folders.specs.Logs.{SettlesAsRead, WritesSettled};
 
 use crate::checking::{logs_fault, read_outcome, read_standings};
 use crate::reading::ReadsFiles;
-use crate::worlds::World;
+use crate::worlds::WorldFolders;
 use field_bounds::{Schema, SiteNo};
 use folder_faults::{Fault, failed};
 use log_replay::Standing;
@@ -20,7 +20,7 @@ use world_logs::{
 fn is_lost<R: ReadsFiles>(
     files: &R,
     alloc: Global,
-    world: &World,
+    world: &WorldFolders,
     site: SiteNo,
 ) -> Result<bool, Fault>
     ensures told { IfOk result (TellsLost (R.stands files.now) world.now.folders.items site.0) }
@@ -40,7 +40,7 @@ fn is_lost<R: ReadsFiles>(
 pub fn lost_sites<R: ReadsFiles>(
     files: &R,
     alloc: Global,
-    world: &World,
+    world: &WorldFolders,
 ) -> Result<Vec<SiteNo>, Fault>
     ensures lost { IfOk result (λ lost. AreLost (R.stands files.now) world.now.folders.items
         world.now.schema lost.items) }
@@ -59,7 +59,7 @@ pub fn lost_sites<R: ReadsFiles>(
 fn read_known<R: ReadsFiles>(
     files: &R,
     alloc: Global,
-    world: &World,
+    world: &WorldFolders,
     lost: &[SiteNo],
     site: SiteNo,
 ) -> Result<Result<Option<Standing>, u64>, Fault>
@@ -80,7 +80,7 @@ fn read_known<R: ReadsFiles>(
 fn read_all_known<R: ReadsFiles>(
     files: &R,
     alloc: Global,
-    world: &World,
+    world: &WorldFolders,
     lost: &[SiteNo],
 ) -> Result<Vec<Result<Option<Standing>, u64>>, Fault>
     ensures outcomes { IfOk result (λ outcomes. AreKnownOutcomes (R.holds files.now)
@@ -97,7 +97,7 @@ fn read_all_known<R: ReadsFiles>(
 fn read_known_standings<R: ReadsFiles>(
     files: &R,
     alloc: Global,
-    world: &World,
+    world: &WorldFolders,
     lost: &[SiteNo],
 ) -> Result<Vec<Option<Standing>>, Fault>
     ensures stand { IfOk result (λ standings. KnownAsRead (R.holds files.now)
@@ -111,7 +111,11 @@ fn read_known_standings<R: ReadsFiles>(
 }
 
 // The schema of a world that goes on where the logs of all sites end.
-fn settled_schema<R: ReadsFiles>(files: &R, alloc: Global, world: &World) -> Result<Schema, Fault>
+fn settled_schema<R: ReadsFiles>(
+    files: &R,
+    alloc: Global,
+    world: &WorldFolders,
+) -> Result<Schema, Fault>
     ensures settled { IfOk result (SettlesAsRead (R.holds files.now) world.now.folders.items
         world.now.schema) }
 {
@@ -127,7 +131,7 @@ fn settled_schema<R: ReadsFiles>(files: &R, alloc: Global, world: &World) -> Res
 pub fn settled_header<R: ReadsFiles>(
     files: &R,
     alloc: Global,
-    world: &World,
+    world: &WorldFolders,
 ) -> Result<String, Fault>
     ensures header { IfOk result (λ header. WritesSettled (R.holds files.now)
         world.now.folders.items world.now.schema (string_bytes header)) }
@@ -145,7 +149,7 @@ pub fn settled_header<R: ReadsFiles>(
 pub fn ranges_of<R: ReadsFiles>(
     files: &R,
     alloc: Global,
-    world: &World,
+    world: &WorldFolders,
     lost: &[SiteNo],
 ) -> Result<Vec<FieldRange>, Fault>
     ensures count { IfOk result (λ ranges. length ranges.items

@@ -11,7 +11,7 @@ use crate::reading::ReadsFiles;
 use crate::tells_fault::TellsFault;
 use field_bounds::{Entry, Schema};
 use file_medium::FileFailed;
-use folder_faults::{Fault, Why, device_fault, refused, with_call};
+use folder_faults::{Fault, Missing, Why, device_fault, refused, with_call};
 use folder_logs::trace_text;
 use site_folder::Identity;
 use site_trace::{TraceEnd, TraceFault, kept_entries, read_trace, trace_end_at};
@@ -88,7 +88,7 @@ pub fn read_cut<R: ReadsFiles>(
         (string_bytes paths.now.trace) identity.now) }
 {
     let log = count_records(files, alloc, paths, identity)?;
-    let bytes = read_file(files, alloc, paths.trace.as_str(), Why::NoTrace)?;
+    let bytes = read_file(files, alloc, paths.trace.as_str(), Missing::Trace)?;
     let text = behind_trace_name(alloc, paths, identity, bytes.as_slice())?;
     let end = end_at(alloc, paths, identity.schema(), text, log.plain)?;
     Ok(TraceCut {
@@ -111,7 +111,7 @@ pub fn read_kept_entries<R: ReadsFiles>(
         entries.items) }
 {
     let log = count_records(files, alloc, paths, identity)?;
-    let bytes = read_file(files, alloc, paths.trace.as_str(), Why::NoTrace)?;
+    let bytes = read_file(files, alloc, paths.trace.as_str(), Missing::Trace)?;
     let text = behind_trace_name(alloc, paths, identity, bytes.as_slice())?;
     match kept_entries(alloc, identity.schema(), text, log.plain) {
         Ok(Some(entries)) => Ok(entries),

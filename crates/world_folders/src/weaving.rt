@@ -5,7 +5,7 @@ ghost use Rattle.world_folders.specs.Traces.{AreHistoriesRead};
 
 use crate::reading::ReadsFiles;
 use crate::tracing::read_kept_entries;
-use crate::worlds::World;
+use crate::worlds::WorldFolders;
 use field_bounds::{Entry, SiteNo};
 use folder_faults::Fault;
 use std::alloc::Global;
@@ -15,7 +15,7 @@ use std::alloc::Global;
 pub fn read_histories<R: ReadsFiles>(
     files: &R,
     alloc: Global,
-    world: &World,
+    world: &WorldFolders,
 ) -> Result<Vec<Vec<Entry>>, Fault>
     ensures few { IfOk result (λ histories. length histories.items ≤ 65535) }
     ensures read { IfOk result (λ histories. AreHistoriesRead (R.holds files.now)

@@ -21,7 +21,7 @@ pub struct SiteFolder {
 /// The folders of sites of one world, as they were named: no two of one site, and not of each site
 /// one.
 #[derive(Drop)]
-pub struct World {
+pub struct WorldFolders {
     /// The name of the world.
     pub name: String,
     /// The header line of the world, without a line feed, and the schema that it tells.
@@ -31,7 +31,7 @@ pub struct World {
     pub folders: Vec<SiteFolder>,
 }
 
-impl World {
+impl WorldFolders {
     /// The folder of a site, or None where none was named.
     pub fn folder(&self, site: SiteNo) -> Option<&SiteFolder>
         ensures own { MatchOption result (HasNoFolder self.now.folders.items site.0)
@@ -112,14 +112,18 @@ fn read_folders<R: ReadsFiles>(
 /// The world of the folders that were named: refused where one is no site's folder, or not of the
 /// world of those before it, or of the site of one of them. Which sites have no folder is for the
 /// caller to ask. Reads no log, and takes no lock.
-pub fn read_world<R: ReadsFiles>(files: &R, alloc: Global, named: &[String]) -> Result<World, Fault>
+pub fn read_world<R: ReadsFiles>(
+    files: &R,
+    alloc: Global,
+    named: &[String],
+) -> Result<WorldFolders, Fault>
     ensures world { IfOk result (IsWorldOf (R.holds files.now) named.now) }
 {
     let folders = read_folders(files, alloc, named)?;
     let Some(first) = folders.first() else {
         return Err(Fault::NoFolder(0));
     };
-    Ok(World {
+    Ok(WorldFolders {
         name: first.identity.world(alloc)?,
         header: Vec::from_slice(alloc, first.identity.header())?,
         schema: first.identity.schema().copy()?,

@@ -4,8 +4,9 @@
 use super::*;
 use file_medium::{HostFile, OpenLogFault, Opening, open_log, read_whole};
 use std::alloc::Allocator;
-use std::fs::{self, File, Files, Metadata, OpenOptions};
+use std::fs::{self, File, Files, Metadata, OpenOptions, Permissions};
 use std::io::{self, Error, ErrorKind};
+use std::os::unix::fs::PermissionsExt;
 
 /// The system, which refuses one call.
 #[derive(Drop)]
@@ -21,6 +22,7 @@ enum Refused {
     Remove,
     OpenFolder,
     Rename,
+    SetModes,
 }
 
 fn refusal() -> Error {
@@ -67,6 +69,13 @@ impl<'a, R: Files<File = File>> Files for Refusing<'a, R> {
             return Err(refusal());
         }
         self.rt.remove_file(path)
+    }
+
+    fn set_permissions(&self, path: &str, modes: Permissions) -> io::Result<()> {
+        if self.call == Refused::SetModes {
+            return Err(refusal());
+        }
+        self.rt.set_permissions(path, modes)
     }
 
     fn create_dir(&self, path: &str) -> io::Result<()> {
@@ -142,7 +151,8 @@ fn a_new_file_takes_the_place_of_the_log(rt: HostRuntime) {
     assert_swapped(&rt, rt.alloc(), unsynced, LogSyncs::LeftOut);
 }
 
-/// That the step is told at which the system refused, and the log goes on.
+/// That the step is told at which the system refused, nothing is left of the new file, and the log goes
+/// on.
 fn assert_refused<R: Abort + Files<File = File>>(
     rt: &R,
     alloc: Global,
@@ -164,6 +174,10 @@ fn assert_refused<R: Abort + Files<File = File>>(
     assert_eq!(rt; swap.write(b"er"), Ok(2));
     drop(swap);
     assert_there(rt, alloc, path, "older");
+    assert_eq!(rt;
+        fs::exists(rt, "file_swap_tests.refused.new").ok(),
+        Some(call == Refused::OpenFolder)
+    );
 }
 
 #[test]
@@ -172,6 +186,96 @@ fn where_the_system_refuses_a_step_the_log_goes_on(rt: HostRuntime) {
     assert_refused(&rt, alloc, Refused::Remove, SwapStep::Begin);
     assert_refused(&rt, alloc, Refused::OpenFolder, SwapStep::Begin);
     assert_refused(&rt, alloc, Refused::Rename, SwapStep::Put);
+}
+
+/// The modes that a file has, and is given here.
+const MODES: u32 = 0o100_600;
+
+/// A log with these modes, and its file.
+fn private_log<R: Abort + Files<File = File>>(rt: &R, path: &str) -> HostFile {
+    let log = old_log(rt, path);
+    fs::set_permissions(rt, path, Permissions::from_mode(MODES)).expect(rt, "given");
+    log
+}
+
+/// Where the log of the test on modes lies.
+const PRIVATE: &str = "file_swap_tests.modes";
+
+/// The step that failed where a new file is to take the place of a log with these modes, and the system
+/// refuses this call.
+fn refused_step<R: Abort + Files<File = File>>(
+    rt: &R,
+    alloc: Global,
+    call: Refused,
+) -> Option<SwapStep> {
+    let log = private_log(rt, PRIVATE);
+    let system = Refusing { rt, call };
+    let mut swap = HostSwap::new(alloc, &system, PRIVATE, log, LogSyncs::Made).expect(rt, "memory");
+    let _ = put_anew(&mut swap, b"new", b"er");
+    match swap.take_swap_fault() {
+        Some(fault) => Some(fault.step),
+        None => None,
+    }
+}
+
+/// That this step failed, or none, and the log has its modes.
+fn assert_modes<R: Abort + Files<File = File>>(
+    rt: &R,
+    alloc: Global,
+    call: Refused,
+    step: Option<SwapStep>,
+) {
+    assert_eq!(rt; refused_step(rt, alloc, call), step);
+    let found = fs::metadata(rt, PRIVATE).expect(rt, "looked");
+    assert_eq!(rt; found.permissions().mode(), MODES);
+}
+
+/// Who mayn't read the log mayn't read what takes its place; where the new file can't be given its modes
+/// the log goes on.
+#[test]
+fn the_new_file_has_the_modes_of_the_log(rt: HostRuntime) {
+    assert_modes(&rt, rt.alloc(), Refused::SetModes, Some(SwapStep::Begin));
+    assert_there(&rt, rt.alloc(), PRIVATE, "old");
+    assert_modes(&rt, rt.alloc(), Refused::None, None);
+    assert_there(&rt, rt.alloc(), PRIVATE, "newer");
+}
+
+/// Where the log of the test on moved logs lies, and where it is moved.
+const HERE: &str = "file_swap_tests.moved";
+
+const AWAY: &str = "file_swap_tests.moved.away";
+
+/// Moves the log away, and puts another file in its place.
+fn move_away<R: Abort + Files<File = File>>(rt: &R) {
+    fs::rename(rt, HERE, AWAY).expect(rt, "moved");
+    fs::write(rt, HERE, b"another's".as_slice()).expect(rt, "written");
+}
+
+/// Whether a new file isn't put where another file is now, none is begun there, and the log goes on.
+fn spares<R: Files<File = File>>(swap: &mut HostSwap<'_, R>) -> bool {
+    swap.put_in_place() == REFUSED && swap.begin_beside().is_err() && swap.write(b"er") == Ok(2)
+}
+
+/// Whether that is so where the log is moved once a new file was begun.
+fn spares_another<R: Abort + Files<File = File>>(rt: &R, alloc: Global) -> bool {
+    let log = old_log(rt, HERE);
+    let mut swap = HostSwap::new(alloc, rt, HERE, log, LogSyncs::Made).expect(rt, "memory");
+    let begun = swap.begin_beside();
+    move_away(rt);
+    begun.is_ok() && spares(&mut swap)
+}
+
+/// Where another file has come to the log's path it stays, nothing is made beside it, and the log goes on
+/// where it lies.
+#[test]
+fn another_file_at_the_path_stays(rt: HostRuntime) {
+    assert!(rt; spares_another(&rt, rt.alloc()));
+    assert_eq!(rt;
+        fs::exists(&rt, "file_swap_tests.moved.new").ok(),
+        Some(false)
+    );
+    assert_there(&rt, rt.alloc(), HERE, "another's");
+    assert_there(&rt, rt.alloc(), AWAY, "older");
 }
 
 /// Nothing is put in the place of the log where nothing was begun; and what a stop has left is removed.

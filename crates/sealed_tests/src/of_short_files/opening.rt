@@ -107,13 +107,13 @@ fn an_ended_world_stays_so(rt: HostRuntime) {
     assert_eq!(rt; fault.0, ShortFault::Ended);
 }
 
-/// Each call of an opening that fails is told, and one that finds no head at once looks at all of it.
+/// Each call of an opening that fails is told, the first look at its head too.
 #[test]
 fn an_opening_fails_where_a_call_of_the_file_does(rt: HostRuntime) {
     let alloc = rt.alloc();
     let identity = identity(&rt, alloc);
     for (call, good, wanted) in [
-        (FileCall::Read, 0, None),
+        (FileCall::Read, 0, Some(ShortFault::Device)),
         (FileCall::Read, 1, Some(ShortFault::Device)),
         (FileCall::Read, 2, Some(ShortFault::Device)),
         (FileCall::Sync, 0, Some(ShortFault::Device)),

@@ -1,6 +1,11 @@
 //! Why the log of a folder isn't verified, in words that name the file.
 
-use crate::parts::Beginning;
+ghost use Rattle.std.specs.Prelude.{◌≡◌, IfOk, string_bytes};
+ghost use Rattle.folder_faults.specs.declared.fault.Fault.TheVariants.{NoMemory};
+ghost use Rattle.folder_archives.specs.declared.fault.VerifyFault.TheVariants.{Log};
+ghost use Rattle.folder_archives.specs.Steps.{IsToldOf, TellsHeldFault, TellsJointFault};
+
+use crate::beginning::Beginning;
 use folder_faults::Fault;
 use held_logs::HeldFault;
 use log_archives::JointFault;
@@ -10,7 +15,7 @@ use thiserror::Error;
 /// Why a part of a log is refused, or the log as the last one. A path is that of the part which the
 /// other one doesn't go with.
 #[derive(Debug, Drop, Error)]
-pub(crate) enum PartWhy {
+pub enum PartWhy {
     #[error("isn't there: what is in front of it can't be verified")]
     Missing,
     #[error("isn't a log of this site, or is a later program's")]
@@ -35,7 +40,7 @@ pub(crate) enum PartWhy {
 
 /// Why the log of a folder isn't verified.
 #[derive(Debug, Drop, Error)]
-pub(crate) enum VerifyFault {
+pub enum VerifyFault {
     /// The log itself is refused, a call of the system failed, or memory was wanting.
     #[error("{0}")]
     Log(Fault),
@@ -45,12 +50,16 @@ pub(crate) enum VerifyFault {
 }
 
 impl From<AllocError> for VerifyFault {
+    ghost from_gives = { λ _ fault. fault ≡ Log NoMemory };
+
     fn from(_refused: AllocError) -> VerifyFault {
         VerifyFault::Log(Fault::NoMemory)
     }
 }
 
 impl From<Fault> for VerifyFault {
+    ghost from_gives = { λ given fault. fault ≡ Log given };
+
     fn from(fault: Fault) -> VerifyFault {
         VerifyFault::Log(fault)
     }
@@ -58,7 +67,7 @@ impl From<Fault> for VerifyFault {
 
 impl VerifyFault {
     /// The status with which the program ends.
-    pub(crate) fn status(&self) -> u8 {
+    pub fn status(&self) -> u8 {
         match self {
             VerifyFault::Log(fault) => fault.status(),
             VerifyFault::Part(..) => 3,
@@ -67,7 +76,9 @@ impl VerifyFault {
 }
 
 /// The fault of a part, or of the log as the last one.
-pub(crate) fn part_fault(alloc: Global, path: &str, why: PartWhy) -> VerifyFault {
+pub(crate) fn part_fault(alloc: Global, path: &str, why: PartWhy) -> VerifyFault
+    ensures told { IsToldOf path.now why result }
+{
     match String::from_str(alloc, path) {
         Ok(path) => VerifyFault::Part(path, why),
         Err(_) => VerifyFault::Log(Fault::NoMemory),
@@ -75,7 +86,9 @@ pub(crate) fn part_fault(alloc: Global, path: &str, why: PartWhy) -> VerifyFault
 }
 
 /// Why the file at a path is no part.
-pub(crate) fn held_fault(alloc: Global, path: &str, fault: HeldFault) -> VerifyFault {
+pub(crate) fn held_fault(alloc: Global, path: &str, fault: HeldFault) -> VerifyFault
+    ensures told { TellsHeldFault path.now fault result }
+{
     match fault {
         HeldFault::Other => part_fault(alloc, path, PartWhy::Other),
         HeldFault::Changed => part_fault(alloc, path, PartWhy::Changed),
@@ -90,19 +103,22 @@ pub(crate) fn joint_fault(
     path: &str,
     next: &Beginning,
     fault: JointFault,
-) -> Result<VerifyFault, AllocError> {
+) -> Result<VerifyFault, AllocError>
+    ensures told { IfOk result (TellsJointFault path.now (string_bytes next.now.path) fault) }
+{
     let of = String::from_str(alloc, path)?;
     let next = next.path.as_str();
-    Ok(match fault {
+    match fault {
         JointFault::BadLine { number } | JointFault::BreaksRule { number } => {
-            part_fault(alloc, path, PartWhy::BadLine(number))
+            Ok(part_fault(alloc, path, PartWhy::BadLine(number)))
         }
         JointFault::Short => {
-            part_fault(alloc, path, PartWhy::Short(String::from_str(alloc, next)?))
+            let next = String::from_str(alloc, next)?;
+            Ok(part_fault(alloc, path, PartWhy::Short(next)))
         }
-        JointFault::OtherBase => part_fault(alloc, next, PartWhy::OtherBase(of)),
-        JointFault::OtherBytes => part_fault(alloc, next, PartWhy::OtherBytes(of)),
-        JointFault::OtherRecords => part_fault(alloc, next, PartWhy::OtherRecords(of)),
-        JointFault::OtherHorizon => part_fault(alloc, next, PartWhy::OtherHorizon(of)),
-    })
+        JointFault::OtherBase => Ok(part_fault(alloc, next, PartWhy::OtherBase(of))),
+        JointFault::OtherBytes => Ok(part_fault(alloc, next, PartWhy::OtherBytes(of))),
+        JointFault::OtherRecords => Ok(part_fault(alloc, next, PartWhy::OtherRecords(of))),
+        JointFault::OtherHorizon => Ok(part_fault(alloc, next, PartWhy::OtherHorizon(of))),
+    }
 }

@@ -1,0 +1,4 @@
+mod Lasts
+mod Firsts
+mod Chained
+mod Whys
