@@ -4,9 +4,11 @@ from __future__ import annotations
 
 import concurrent.futures
 import dataclasses
+import errno
 import os
 import re
 import shutil
+import subprocess
 
 from gate_programs import AT_ONCE, Fault
 from site_damage import flipped, put
@@ -18,7 +20,7 @@ from site_misuse import BEHIND, CHANGED_HEAD, LOST, NO_RECORD, NO_TRACE, OTHERS,
 from site_model import END, ChangedHead, Field, Gone, Log, NoLog, OtherLog, World, bounded, checked, sealed, settled
 from site_program import ALONE, FIRST, SHOP, Program, Site, files_of
 from site_settled import ENDED
-from site_short_stops import READ, sales
+from site_short_stops import READ, sales, unshortened
 from site_stops import Stopper
 from site_whole import Whole
 
@@ -342,6 +344,81 @@ def shorten_behind_links(program: Program) -> None:
             raise Fault(f"{site.folder}: {status}, {err!r}, {sorted(files_of(site.folder))}, {sorted(files_of(there))}, {site.log().gone}")
 
 
+def ask(served: subprocess.Popen[bytes], asked: list[str]) -> list[bytes]:
+    """The answers to lines, some at a time, so that no pipe is full."""
+    told: list[bytes] = []
+    assert served.stdin and served.stdout
+    for at in range(0, len(asked), 90):
+        served.stdin.write(lines(*asked[at : at + 90]))
+        served.stdin.flush()
+        told += [served.stdout.readline() for _ in asked[at : at + 90]]
+    return told
+
+
+def spare_others(program: Program) -> None:
+    """A link to a folder that is turned while the folder is served, and a folder that is moved and another one put in its place: the
+    log goes on where it lies, whole, which is told, and the other site's folder stays as it is."""
+    for is_link in (True, False):
+        for words in ([], ["--archive"]):
+            name = f"turned{int(is_link)}{len(words)}"
+            site, other = program.created(name, ALONE), program.created(f"{name}_other", ALONE)
+            there = os.path.join(program.folder, f"{name}_now")
+            os.symlink(site.folder, there) if is_link else os.rename(site.folder, there)
+            pipes = {"stdin": subprocess.PIPE, "stdout": subprocess.PIPE, "stderr": subprocess.PIPE}
+            served = program.children.start([program.path, "serve", there, "--keep", "0", *words], env={}, **pipes)
+            try:
+                ask(served, sales(1, 1, 300))
+                os.remove(there) if is_link else os.rename(there, site.folder)
+                os.symlink(other.folder, there) if is_link else shutil.copytree(other.folder, there)
+                before = files_of(there)
+                ask(served, sales(1, 301, 3_000))
+                _, err = served.communicate()
+            finally:
+                program.children.end(served)
+            log, ending = site.log(), "GONE" if words else "new"
+            told = unshortened(f"{there}/log", f"it was moved, or another has {there}/log.{ending}").encode()
+            if (served.returncode, err) != (0, told) or files_of(there) != before or log.gone or len(log.commits) != 3_300:
+                raise Fault(f"{there}: {served.returncode}, {err!r}, {sorted(files_of(there))}, {log.gone}, {len(log.commits)} commits")
+
+
+def tell_unshortened(program: Program) -> None:
+    """What stands in the way of a shortening is told once, and anew only once the log was shortened in between; where it may be told
+    again and again, sixteen times in a run."""
+    site = program.created("told", ALONE)
+    folder, pipes = site.folder, {"stdin": subprocess.PIPE, "stdout": subprocess.PIPE, "stderr": subprocess.PIPE}
+    served = program.children.start([program.path, "serve", folder, "--keep", "0", "--no-sync"], env={}, **pipes)
+    why = f"make {folder}/log.new: {os.strerror(errno.EISDIR)} (os error {errno.EISDIR})"
+    try:
+        ask(served, sales(1, 1, 100))
+        for turn in range(20):
+            os.mkdir(f"{folder}/log.new")
+            ask(served, sales(1, turn * 8_000 + 101, 4_000))
+            gone = site.log().gone
+            os.rmdir(f"{folder}/log.new")
+            ask(served, sales(1, turn * 8_000 + 4_101, 4_000))
+            if site.log().gone == gone:
+                raise Fault(f"{folder}: not shortened in turn {turn}: {gone}")
+        _, err = served.communicate()
+    finally:
+        program.children.end(served)
+    if (served.returncode, err.decode()) != (0, unshortened(f"{folder}/log", why) * 16):
+        raise Fault(f"{folder}: {served.returncode}, {err!r}")
+
+
+def tell_unkept(program: Program) -> None:
+    """So is what stands in the way of an archive: the log isn't shortened then."""
+    site, asked = program.created("unkept", ALONE), lines(*sales(1, 1, 3_000))
+    folder = shutil.copytree(site.folder, f"{site.folder}_before")
+    program.run(["serve", folder, "--keep", "0", "--archive"], asked)
+    parts = sorted(it for it in files_of(folder) if it.startswith("log."))
+    os.mkdir(f"{site.folder}/{parts[0]}")
+    status, _, err = program.run(["serve", site.folder, "--keep", "0", "--archive"], asked)
+    log = site.log()
+    why = f"keep {site.folder}/log.GONE: {os.strerror(errno.EISDIR)} (os error {errno.EISDIR})"
+    if (status, err) != (0, unshortened(f"{site.folder}/log", why)) or log.gone or len(log.commits) != 3_000:
+        raise Fault(f"{site.folder}: {status}, {err!r}, {log.gone}, {len(log.commits)} commits, {parts}")
+
+
 def keep_parts(program: Program) -> None:
     """With --archive what a log lets go of is kept: verify tells all that a log has that lets go of nothing. A part that was
     changed, or isn't there, is named."""
@@ -452,5 +529,5 @@ def refuse_older(program: Program, shop: Shop, olds: list[bytes]) -> None:
 
 SHORT = (
     tell_short_logs, sell_by_keys, settle_short_logs, refuse_heads, refuse_bases, damage_short_logs, refuse_keeps,
-    refuse_short_traces, remove_new, shorten_behind_links, keep_parts, keep_as_much,
+    refuse_short_traces, remove_new, shorten_behind_links, spare_others, tell_unshortened, tell_unkept, keep_parts, keep_as_much,
 )  # fmt: skip

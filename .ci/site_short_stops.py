@@ -1,8 +1,8 @@
 """Stops and failures of `escrow_site serve --keep` at each call of the system of a shortening (.ci/stop_calls.c), and a start
 between whose calls another process shortens the log.
 
-Before the new log has the name of the log, a failure leaves all as it was, and the site goes on; from there on the sync of the
-folder alone ends it, status 5. However it ends, and however the machine stops then: what was told is there, in the old log or in
+Before the new log has the name of the log, a failure leaves all as it was, and the site goes on, and tells why; from there on the
+sync of the folder alone ends it, status 5. However it ends, and however the machine stops then: what was told is there, in the old log or in
 the new one, each whole."""
 from __future__ import annotations
 
@@ -23,8 +23,12 @@ from site_stops import KILL, TEAR, Call, Disk, Ended, Stopper, each
 
 SHORT, NONE, WAIT = "short", "none", "wait"
 KEEP = ["--keep", "0"]
+MODES = 0o640
 # So many bytes come in one read. A line that isn't a command fills it.
 READ, FILLER = 65_536, "x" * 255 + "\n"
+GROWS = "it grows on until that is mended\n"
+WORDS = {"write": "write", "fsync": "sync", "fdatasync": "sync", "open": "rename", "rename": "rename"}
+"""How a step of a shortening is told, by a call of it once something was written: before that the new log is made."""
 
 
 def sales(epoch: int, first: int, count: int) -> list[str]:
@@ -70,10 +74,11 @@ def asks(program: Program, shop: Shop, shops: list[Shop], words: list[str], line
 
 
 def prepared(program: Program, name: str, is_traced: bool = True) -> list[Shop]:
-    """A world of two sites, of which the first has sold."""
+    """A world of two sites, of which the first has sold; others mayn't read its logs."""
     shops = [Shop.of(program.created(f"{name}{number}", SHOP, number, is_traced)) for number in range(2)]
     for shop, lines in zip(shops, (ASKED_BEFORE, [])):
         asks(program, shop, shops, [], lines, {})
+        os.chmod(f"{shop.site.folder}/log", MODES)
     return shops
 
 
@@ -152,6 +157,21 @@ def in_question(calls: list[Call]) -> list[tuple[int, str]]:
     return found + [(at + 1, how) for at in writes for how in (SHORT, NONE)]
 
 
+def unshortened(log: str, why: str) -> str:
+    return f"escrow_site: {log}: isn't shortened: {why}: {GROWS}"
+
+
+def grows(ended: Ended, folder: str, call: Call, before: list[Call]) -> str:
+    """What is told where this call of a shortening fails. Where it is looked whether the log is in its place still, right before it
+    is replaced, a failure counts as a no."""
+    log, new = f"{folder}/log", [it.name for it in before if is_of_new(it)]
+    written = new[new.index("write") :] if "write" in new else []
+    if call.name == "stat" and {"fsync", "fdatasync"} & {*written}:
+        return unshortened(log, f"it was moved, or another has {log}.new")
+    word = WORDS.get(call.name, "make") if written or call.name == "write" else "make"
+    return unshortened(log, f"{word} {log}.new: {os.strerror(int(ended.how))} (os error {ended.how})")
+
+
 def check_ended(ended: Ended, folder: str) -> None:
     """Of the steps of a shortening the sync of the folder alone ends the site, where the new log has its name."""
     call = ended.stopped()
@@ -161,8 +181,10 @@ def check_ended(ended: Ended, folder: str) -> None:
     is_shortening = is_told and (not put_at or call.path == folder)
     if ended.how in (KILL, TEAR):
         wanted = (-9, [""])
-    elif call.name == "close" or ended.how in (SHORT, NONE) or is_shortening and not put_at:
+    elif call.name == "close" or ended.how in (SHORT, NONE):
         wanted = (0, [""])
+    elif is_shortening and not put_at:
+        wanted = (0, [grows(ended, folder, call, ended.calls[:at])])
     elif call.path == "stdout" or call.path == "stdin":
         wanted = (1, [f"escrow_site: {'read' if call.path == 'stdin' else 'write'} fault\n"])
     else:
@@ -219,6 +241,8 @@ def stop_shortenings(program: Program, is_traced: bool = True) -> None:
         check_ended(ended, folder)
         if not {"log", "site", "trace", "log.new"}.issuperset(files_of(folder)):
             raise Fault(f"{ended.name}: it has {sorted(files_of(folder))}")
+        if (modes := os.stat(f"{folder}/log").st_mode & 0o777) != MODES:
+            raise Fault(f"{ended.name}: the log has the modes {modes:o}")
         left = [files_of(folder)]
         left += [it for it in Swaps(ended.calls).left(folder, f"{folder}.log") if it not in left]
         for at, files in enumerate(left):
@@ -312,7 +336,8 @@ def refuse_memory_of_shortenings(program: Program) -> None:
         name = f"serve --keep, growth {number} refused"
         status, out, err, is_refused = refusing(program.children, library, name, words, given, number, False)
         is_told = is_refused and (status, err) == (4, b"escrow_site: out of memory\n")
-        if not is_told and (status, err) != (0, b""):
+        is_unshortened = err == unshortened(f"{folder}/log", f"make {folder}/log.new: out of memory").encode()
+        if not is_told and (status, err) != (0, b"") and (status, is_unshortened) != (0, True):
             raise Fault(f"{name}: {status}, {out[-300:]!r}, {err!r}")
         take_run(tried[0], tried, KEEP, before, asked, {}, out.decode().split("\n")[:-1])
         counts[0 if is_told else 1 if tried[0].whole.gone is None else 2] += 1

@@ -133,19 +133,12 @@ def places(folder: str, path: str) -> list[str]:
     return [f"{folder}/trace"] if path == f"{folder}/trace.new" else [path]
 
 
-def is_made_again(ended: Ended, call: Call) -> bool:
-    """Whether a read that failed was made again: a look at the first bytes of a log, behind which all of it is read."""
-    behind = ended.calls[ended.calls.index(call) + 1 :]
-    return call.name == "pread" and behind != [] and (behind[0].name, behind[0].path) == (call.name, call.path)
-
-
 def check_told(ended: Ended, folders: list[str]) -> None:
-    """A process that was killed tells nothing; a call that failed is told, but for a `close`, which changes nothing, and a read that
-    was made again."""
+    """A process that was killed tells nothing; a call that failed is told, but for a `close`, which changes nothing."""
     call = ended.stopped()
     if ended.how in (KILL, TEAR):
         is_right = (ended.status, ended.err) == (-9, "")
-    elif call.name == "close" or is_made_again(ended, call):
+    elif call.name == "close":
         is_right = (ended.status, ended.err) == (0, "")
     elif call.path in ("stdin", "stdout"):
         is_right = (ended.status, ended.err) == (1, f"escrow_site: {'read' if call.path == 'stdin' else 'write'} fault\n")

@@ -172,6 +172,12 @@ int statx(int file, const char *path, int flags, unsigned mask, void *found) {
     return is_stopped("stat", of) ? -1 : (int)told("stat", of, real(file, path, flags, mask, found));
 }
 
+int chmod(const char *path, unsigned mode) {
+    static int (*real)(const char *, unsigned);
+    if (!real) real = (int (*)(const char *, unsigned))dlsym(next, "chmod");
+    return is_stopped("chmod", path) ? -1 : (int)told("chmod", path, real(path, mode));
+}
+
 int mkdir(const char *path, unsigned mode) {
     static int (*real)(const char *, unsigned);
     if (!real) real = (int (*)(const char *, unsigned))dlsym(next, "mkdir");
