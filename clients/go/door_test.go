@@ -602,7 +602,7 @@ func TestSells(t *testing.T) {
 		t.Skip("TestTwoProcesses starts it")
 	}
 	told := tally{sold: map[string]bool{}}
-	for len(told.sold) < 3000 {
+	for len(told.sold) < 3000 || len(told.doubt) > 0 {
 		site, err := Connect(path)
 		if err != nil {
 			t.Fatal(err)

@@ -63,7 +63,7 @@ var ErrKey = errors.New("escrow: no key of 1 to 64 of A-Z a-z 0-9 . _ -")
 
 // ErrID is the error of what is no id of this site, or none that the log can tell of: of another world or another site, or of an epoch
 // or number that isn't yet. So too of a position, and of one that isn't ahead of the transaction: nothing was committed. Of a world that
-// was settled look in the old folder's log.
+// was settled look in the log and the archives of its old folder.
 var ErrID = errors.New("escrow: no id of a transaction of this site")
 
 // ErrForgotten is the error where the log was shortened, and a commit of this id, or with this key, may be among what it has let go of:
@@ -99,8 +99,10 @@ var aKey = regexp.MustCompile(`\A[A-Za-z0-9._-]{1,64}\z`)
 var numbers = regexp.MustCompile(`\A(?:0|[1-9]\d*)\.(?:0|[1-9]\d*)\z`)
 var id = regexp.MustCompile(`\A(?:([0-9a-f]{8})-(?:(0|[1-9]\d*)-)?)?(0|[1-9]\d*)\.(0|[1-9]\d*)\z`)
 
-// Start starts the program over this folder, and returns once it serves. An error is Ended, or tells why nothing was started.
-func Start(program, folder string) (*Site, error) {
+// Start starts the program over this folder, and returns once it serves. Options are those of `serve`, word by word: "--keep", "1048576"
+// lets go of the front of the log while it serves. An error is Ended, of status 2 where there is no such option, or tells why nothing
+// was started.
+func Start(program, folder string, options ...string) (*Site, error) {
 	whose, err := os.ReadFile(filepath.Join(folder, "site"))
 	if err != nil {
 		return nil, err
@@ -112,7 +114,7 @@ func Start(program, folder string) (*Site, error) {
 	if strings.HasPrefix(folder, "-") { // no option
 		folder = "./" + folder
 	}
-	command := exec.Command(program, "serve", folder)
+	command := exec.Command(program, append([]string{"serve", folder}, options...)...)
 	command.Stderr = os.Stderr
 	pipe, inFault := command.StdinPipe()
 	out, outFault := command.StdoutPipe()

@@ -237,3 +237,40 @@ func TestRefusals(t *testing.T) {
 		t.Error(err)
 	}
 }
+
+// Over the real program, which lets go of the front of its log.
+func TestOptions(t *testing.T) {
+	program, folder := made(t)
+	site, err := Start(program, folder, "--keep", "0", "--no-sync")
+	if err != nil {
+		t.Fatal(err)
+	}
+	first, err := site.Change("stock", -1)
+	start, fault := site.Position()
+	if err != nil || fault != nil {
+		t.Fatal(err, fault)
+	}
+	for range make([]bool, 4000) {
+		_, low := site.Change("stock", -1)
+		if _, high := site.Change("stock", 1); low != nil || high != nil {
+			t.Fatal(low, high)
+		}
+	}
+	if told, err := site.Kept(first); told || !errors.Is(err, ErrForgotten) {
+		t.Error(told, err)
+	}
+	if id, err := site.KeptKey("order", start); id != "" || !errors.Is(err, ErrForgotten) {
+		t.Error(id, err)
+	}
+	if log, err := os.Stat(filepath.Join(folder, "log")); err != nil || log.Size() >= 60000 {
+		t.Error(log.Size(), "8,001 commits are 120,000 bytes", err)
+	}
+	if err := site.End(); err != nil {
+		t.Error(err)
+	}
+	for _, options := range [][]string{{"--keep"}, {"--keep", "many"}, {"--kept", "0"}} {
+		if _, err := Start(program, folder, options...); err != error(Ended{2}) {
+			t.Error(options, err)
+		}
+	}
+}

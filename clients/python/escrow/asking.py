@@ -97,10 +97,21 @@ def ask_behind_stop(
 
 
 def unknown(pipeline: Pipeline, fault: Exception, id: Optional[str] = None, key: Optional[str] = None) -> Unknown:
-    """What can't be asked behind a stop isn't known: it is counted."""
-    told = Unknown(str(fault), id, key)
+    """What can't be asked behind a stop isn't known: it is counted. A question that came too late tells that nothing was begun by
+    it, and not what was begun before: so its words stay out."""
+    why = "the question what became of it wasn't answered in time" if isinstance(fault, Busy) else str(fault)
+    told = Unknown(f"a stop left its answer out, so it isn't known whether it happened: {why}: {_to_do(id, key)}", id, key)
     pipeline.missed(told)
     return told
+
+
+def _to_do(id: Optional[str], key: Optional[str]) -> str:
+    """How who asked learns it later."""
+    if key is not None:
+        return "ask kept_key of this key later, or for the same again, with the same key (and since, where it had one)"
+    if id is not None:
+        return "ask outcome of this id later, and not for the same anew before it tells that it isn't committed"
+    return "look before you ask for the same anew: by restate of a gift, by show of a tightening; a statement is accepted again"
 
 
 async def async_kept(pipeline: Pipeline, ask_: Ask, id: str, end: float = NEVER) -> Outcome:

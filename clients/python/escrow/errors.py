@@ -235,15 +235,21 @@ class OtherWorld(EscrowError, ValueError):
     """The id is of another world than the site, as one that was settled: nothing was asked, since this site would tell of
     a transaction of its own.
 
-    `id` is the one that was asked about, `world` the first digits of its world's name, and `own` those of the site's.
+    `id` is the one that was asked about, `world` the first digits of its world's name, and `own` those of the site's. Of a
+    position no `commit` is told, the epoch and number of one to look for.
     """
 
-    def __init__(self, id: str, world: str, own: str, epoch: int, number: int) -> None:
+    def __init__(self, id: str, world: str, own: str, commit: Optional[tuple[int, int]] = None) -> None:
         self.id, self.world, self.own = id, world, own
-        super().__init__(
-            f"{id}: this id is of another world ({world}), and this site of {own}: where that world was settled, look in "
-            f"its site's old folder: grep '^C {epoch} {number} ' FOLDER/log finds what was committed, and nothing else"
-        )
+        super().__init__(f"{id}: {_OTHER_POSITION.format(world, own) if commit is None else _OTHER_ID.format(world, own, *commit)}")
+
+
+_OTHER_POSITION = "this position is of another world ({}), and this site of {}: nothing was asked"
+_OTHER_ID = (
+    "this id is of another world ({}), and this site of {}: where that world was settled, look in its site's old folder: "
+    "grep '^C {} {} ' FOLDER/log finds what was committed, of what the log still holds; where it let go of some (escrow_site show "
+    "tells gone) ask your own books, or its archive"
+)
 
 
 class NoKeys(EscrowError):

@@ -20,6 +20,19 @@ def amount_of(amount: int) -> int:
     return whole
 
 
+MOST_KEPT = 2**40
+"""So many bytes the program takes for `--keep` at most."""
+
+
+def keep_of(keep: int) -> int:
+    """Raises `ValueError` where this is no number of bytes that a log may be told to keep, 0 to 2^40, and `TypeError` where it
+    is no whole number."""
+    whole = int(operator.index(keep))
+    if not 0 <= whole <= MOST_KEPT:
+        raise ValueError(f"{keep}: isn't a number of bytes to keep, 0 to 2^40")
+    return whole
+
+
 def change_of(change: int) -> int:
     """Raises `ValueError` where this is no change, of 64 bits with a sign, and `TypeError` where it is no whole number.
     """
@@ -91,12 +104,12 @@ def read_id(id: str) -> Id:
     return told
 
 
-def line_id(world: str, site: int, id: str) -> str:
-    """How the lines of this site of this world name a transaction; `world` is the first digits of the world's name.
-    Raises `OtherWorld` or `OtherSite` where the id is of another, and `ValueError` where it is none."""
+def line_id(world: str, site: int, id: str, is_position: bool = False) -> str:
+    """How the lines of this site of this world name a transaction, or a position; `world` is the first digits of the world's
+    name. Raises `OtherWorld` or `OtherSite` where the id is of another, and `ValueError` where it is none."""
     told = read_id(id)
     if told.world and told.world != world:
-        raise OtherWorld(id, told.world, world, *told.numbers())
+        raise OtherWorld(id, told.world, world, None if is_position else told.numbers())
     if told.site is not None and told.site != site:
         raise OtherSite(id, told.site, site)
     return told.line

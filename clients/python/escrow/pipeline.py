@@ -389,7 +389,8 @@ class Pipeline:
         """A key, and its position, which is spelled as an id. Raises as `line_id`, and what is wrong with the key."""
         if key is None:
             raise TypeError("since tells the position of a key: there is no key")
-        return CallerKey(key_of(key), None if since is None else self.line_id(since))
+        word = key_of(key)
+        return CallerKey(word, None if since is None else line_id(self.world, self.number, since, is_position=True))
 
     def position(self) -> Optional[str]:
         """The last transaction that went out to begin, as lines name it, or `EPOCH.0`: what begins from now on is behind it. None

@@ -24,7 +24,7 @@ from .errors import Down, Interrupted
 from .gauges import Gauges
 from .holding import Holding
 from .keys import CallerKey, KeptKey
-from .numbers import SHORT, amount_of, line_id, site_of
+from .numbers import SHORT, amount_of, keep_of, line_id, site_of
 from .pipeline import Counts, Pipeline, Watch
 from .program import create, find_program, make_or_find
 from .records import Records
@@ -70,6 +70,7 @@ class Site:
         *,
         sync: bool = True,
         keep: Optional[int] = None,
+        archive: bool = False,
         not_before: Optional[Mark] = None,
         last_id: Optional[str] = None,
         metrics: Optional[Watch] = None,
@@ -84,8 +85,9 @@ class Site:
 
         `program` is the path of `escrow_site` (see `find_program`). `trace` keeps a trace: from the first start on and
         always, or never. `sync=False` doesn't sync the log: a stop of the machine may lose what was answered. With `keep` the
-        program lets go of the front of its log while it serves, but for at least so many bytes: then what is asked about what is
-        gone is `Forgotten`, and keys want their `since`. Without it a log only grows.
+        program lets go of the front of its log while it serves, but for at least so many bytes, up to 2^40: then what is asked
+        about what is gone is `Forgotten`, and keys want their `since`. Without it a log only grows. `archive` keeps the log in
+        the folder as it was each time, for `escrow_site verify`: from the first time on and always.
         `not_before` refuses a log that is older, and so does `last_id`: the newest id that the caller's own books have
         as committed. The log is asked for it once, before any other call, and a site whose log hasn't got it is closed; one
         that was shortened beyond it isn't older, and goes on.
@@ -97,16 +99,17 @@ class Site:
         held for `held` seconds is warned of in the log, under `escrow`, where starts and stops are told too.
 
         Raises `Down` where it doesn't stand in time, at once where the folder or the log is refused (`status` 3), the
-        command line is (2), the disk has a fault (5), or another `Site` of this machine has the folder (6); a disk that
-        is full is waited for. `FileNotFoundError` where no program is named and none is found, `ValueError` where
-        `last_id` is no id or `keep` below 0, and `OtherWorld` where the id is one of another world.
+        command line is (2, as of `archive` without `keep`), the disk has a fault (5), or another `Site` of this machine has the
+        folder (6); a disk that is full is waited for. `FileNotFoundError` where no program is named and none is found,
+        `ValueError` where `last_id` is no id or `keep` no such number, and `OtherWorld` where the id is one of another world.
         """
         self.folder = os.path.abspath(os.fspath(folder))
         self.number, self.world, self.schema = identity(self.folder)
         if last_id is not None:
             line_id(self.world[:SHORT], self.number, last_id)
         options = (*(("--trace",) if trace else ()), *(() if sync else ("--no-sync",)))
-        options += () if keep is None else ("--keep", str(amount_of(keep)))
+        options += () if keep is None else ("--keep", str(keep_of(keep)))
+        options += ("--archive",) if archive else ()
         self.metrics, self.timeout = metrics, timeout
         self.on_statement: list[Callable[[Statement], object]] = []
         """Called with each statement that is issued, in a thread of its own, in order: it has to reach its receiver."""

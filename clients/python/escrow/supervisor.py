@@ -14,7 +14,8 @@ from collections.abc import Callable
 from dataclasses import dataclass
 from typing import IO, NamedTuple, Optional
 
-from .device import device_fault
+from .complaints import Complaints
+from .device import device_fault, remedy
 from .errors import Down, Faulty
 from .pipeline import Pipeline, Watch
 from .records import served_between
@@ -27,14 +28,10 @@ VERSIONS = (1, 2)
 asked of a commit may be answered `forgotten`."""
 DISK = 5
 """The status behind a fault of the disk."""
-HOPELESS = {
-    2: "",
-    3: "",
-    DISK: ": make room or mend the disk; after a sync that failed start the machine anew before the site",
-}
-"""Statuses behind which it isn't started again, and what there is to add to what the program told: 2 and 3 would come
-again. 5 is a fault of the disk: until it is mended, what the system shows of the log may not be on the disk. Where the
-disk is full it is none: what is written stays, and is synced by the next start."""
+HOPELESS = (2, 3, DISK)
+"""Statuses behind which it isn't started again: 2 and 3 would come again. 5 is a fault of the disk: until it is mended, what the
+system shows of the log may not be on the disk. Where the disk is full it is none: what is written stays, and is synced by the
+next start."""
 FULL = ": the disk is full: make room on it: the site starts again by itself once 64 KiB can be written in its folder"
 LOOK = 0.5
 """Seconds between two looks for calls that have waited too long, where a start takes long, and for room on the disk."""
@@ -146,7 +143,7 @@ class Supervisor:
                 self._wait_for_room()
                 continue
             if self.last_status in HOPELESS:
-                return Down(self.last_error + HOPELESS[self.last_status], self.last_status)
+                return hopeless(self.last_status, self.last_error)
             self._lose_patience()
             self._closing.wait(pause)
             pause = min(2 * pause, self._orders.backoff.most)
@@ -186,6 +183,7 @@ class Supervisor:
             self.last_status, self.last_error = 2, f"{self._orders.command[0]}: {fault.strerror}"
             return False
         assert process.stdin and process.stdout and process.stderr
+        complaints = Complaints(process.stderr, log)
         self._process, why, got_on = process, "", False
         try:
             if self._stands(process.stdin, process.stdout):
@@ -195,7 +193,7 @@ class Supervisor:
         except Faulty as faulty:
             why = str(faulty)
         finally:
-            self._end(process, why)
+            self._end(process, complaints, why)
         return got_on
 
     def _start(self) -> subprocess.Popen[bytes]:
@@ -232,20 +230,18 @@ class Supervisor:
         self._stood.set()
         return True
 
-    def _end(self, process: subprocess.Popen[bytes], why: str) -> None:
-        assert process.stdin and process.stdout and process.stderr
+    def _end(self, process: subprocess.Popen[bytes], complaints: Complaints, why: str) -> None:
+        assert process.stdin and process.stdout
         if not self._closing.is_set():
             _kill_all(process)  # it has closed its output, or its answers don't fit: it can do nothing more for us
         self._pipeline.detach()
         process.stdin.close()
-        told = process.stderr.read().decode(errors="replace").strip()
-        self.last_status = process.wait()
-        self.last_error = told or why or f"it ended with status {self.last_status}"
+        status, told = process.wait(), complaints.text()
+        self.last_status, self.last_error = status, told or why or f"it ended with status {status}"
         process.stdout.close()
-        process.stderr.close()
         self._process = None
         self._pipeline.fall()
-        self._tell_end(self.last_status)
+        self._tell_end(status)
 
     def _tell_end(self, status: int) -> None:
         if status == 0:  # it was closed, or its numbers were used up
@@ -265,6 +261,11 @@ class Supervisor:
             self._pipeline.write_rest()
             if self._closing.is_set():
                 self._pipeline.finish()
+
+
+def hopeless(status: Optional[int], told: str) -> Down:
+    """Why it isn't started again behind a status of `HOPELESS`, and what to do."""
+    return Down(told + remedy(told) if status == DISK else told, status)
 
 
 class Ready(NamedTuple):

@@ -8,9 +8,12 @@ at any time, tells in JSON how it answers:
     horizon     [EPOCH, NUMBER]: commits up to there, and their keys, were let go of
     word        what it answers to each question about a commit
     keyed       what it answers to a commit with a key, which it doesn't make
+    shut        whether it waits before it stands, as long as this is told
     slow        so many seconds pass before it answers such a question
     stop        at the next commit it ends without an answer: `ahead` of it, or `behind` it
     then        how it answers from that stop on
+    fault       what it writes on standard error at that stop: then it ends with status 5
+    complains   what it writes there ahead of each answer
 
 A key may be told with its position, `key KEY since EPOCH.NUMBER`: one that isn't held is `forgotten` only where the horizon is
 beyond that, and without a position wherever there is one. A commit with a key that is held or forgotten isn't made. All lines that
@@ -102,6 +105,8 @@ class Forgetful:
         with open(os.path.join(self._folder, "lines"), "a", encoding="ascii") as file:
             file.write(f"{line}\n")
         words, told = line.split(" "), read_told(self._folder)
+        sys.stderr.write(told.get("complains", ""))
+        sys.stderr.flush()
         if words[0] == "kept":
             time.sleep(told.get("slow", 0.0))
         if words[:2] == ["kept", "key"]:
@@ -142,7 +147,8 @@ class Forgetful:
             self._keep(Commit(id, self._open[id], words[0] if words else ""))
         if "stop" in told:
             tell(self._folder, **told.get("then", {}))
-            sys.exit(1)
+            sys.stderr.write(told.get("fault", ""))
+            sys.exit(5 if "fault" in told else 1)
         del self._open[id]
         return f"{line} -> committed"
 
@@ -182,6 +188,8 @@ def main() -> None:
     if sys.argv[1] == "show":
         print(shown(sys.argv[2]), end="")
         return
+    while read_told(sys.argv[2]).get("shut"):
+        time.sleep(0.01)
     site = Forgetful(sys.argv[2])
     print(site.ready(), flush=True)
     for line in sys.stdin:

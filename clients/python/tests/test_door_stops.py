@@ -95,7 +95,7 @@ class KilledTest(DoorTest):
     def test_what_is_busy_over_a_door_that_stands_still_is_never_made(self) -> None:
         door, luck = self.door(LARGE), random.Random(8)
         pushers = began(door, ("change", "mixed"), 0.05)
-        for _ in range(6):
+        for _ in range(18):  # on a busy machine few of them leave a call waiting
             time.sleep(luck.uniform(0.05, 0.2))
             door.stand_still()
             time.sleep(luck.uniform(0.05, 0.2))

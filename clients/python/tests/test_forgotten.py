@@ -540,6 +540,7 @@ class PositionsOverFolderTest(ForgetfulTest):
                 with self.subTest(since), self.assertRaises(kind) as raised:
                     sells("order", since)
                 self.assertIn(told, str(raised.exception))
+                self.assertNotIn("grep", str(raised.exception))
         without: list[Does] = [
             lambda: site.change("stock", -1, since=of_shop("1.0")), lambda: site.transaction().commit(since=of_shop("1.0")),
             lambda: asyncio.run(escrow.AsyncSite(site).change("stock", -1, since=of_shop("1.0"))),

@@ -7,6 +7,8 @@ import asyncio
 import os
 import random
 import signal
+import subprocess
+import sys
 import threading
 import time
 import unittest
@@ -14,7 +16,7 @@ from collections.abc import Callable, Iterator
 from typing import Any
 
 from doors import Door, DoorTest, children_of
-from programs import LARGE, Killer, escrow_site, kill, wait_until
+from programs import LARGE, PACKAGES, Killer, escrow_site, kill, wait_until
 import escrow
 from escrow import Forgotten, Outcome
 
@@ -272,11 +274,71 @@ class WholeTest(DoorTest):
 
     def test_what_is_no_number_of_bytes(self) -> None:
         folder = self.folder(LARGE)
-        with self.assertRaises(ValueError):
-            escrow.Site(folder, program=escrow_site(), keep=-1)
+        for keep in (-1, (1 << 40) + 1):
+            with self.assertRaisesRegex(ValueError, f"{keep}: isn't a number of bytes to keep, 0 to 2\\^40"):
+                escrow.Site(folder, program=escrow_site(), keep=keep)
+            ended = self.ended_door(folder, "--keep", str(keep))
+            self.assertEqual(ended.returncode, 2)
+            self.assertIn(f"{keep}: isn't a number of bytes to keep, 0 to 2^40", ended.stderr)
         with self.assertRaises(TypeError):
             escrow.Site(folder, program=escrow_site(), keep=1.5)  # type: ignore[arg-type]
-        self.served(folder, keep=1 << 20).close()
+        for keep in (1 << 20, 1 << 40):
+            self.served(folder, keep=keep).close()
+
+    def ended_door(self, folder: str, *words: str) -> subprocess.CompletedProcess[str]:
+        """A door that doesn't open."""
+        words = ("-m", "escrow.door", folder, "--socket", f"{folder}.door", "--program", escrow_site(), *words)
+        return subprocess.run([sys.executable, *words], cwd=PACKAGES, capture_output=True, text=True, check=False, timeout=20)
+
+
+class ArchiveTest(DoorTest):
+    """What is let go of stays in the folder, as the log was each time: asked for by a site, by a task's and by a door."""
+
+    def sell(self, site: escrow.Site) -> None:
+        """So much that the log lets go of its front."""
+        asyncio.run(Books().buy_all(escrow.AsyncSite(site), iter(orders(0, 3000)), 32))
+        site.close()
+
+    def verify(self, folder: str) -> None:
+        """All of it is one lawful log yet, with each sale."""
+        gone = escrow.show(folder, escrow_site()).gone
+        self.assertGreater(gone, 0)
+        self.assertIn(f"log.{gone}", os.listdir(folder))
+        told = subprocess.run([escrow_site(), "verify", folder], capture_output=True, text=True, check=False)
+        self.assertRegex(told.stdout, r"^verified 300\d [0-9]+\n$")
+
+    def test_a_site(self) -> None:
+        folder = self.folder(LARGE)
+        self.sell(self.served(folder, keep=KEEP, archive=True, timeout=20.0))
+        self.verify(folder)
+
+    def test_a_site_of_tasks(self) -> None:
+        folder = self.folder(LARGE)
+
+        async def sells() -> None:
+            async with escrow.AsyncSite(folder, program=escrow_site(), keep=KEEP, archive=True, timeout=20.0) as shop:
+                await Books().buy_all(shop, iter(orders(0, 3000)), 32)
+
+        asyncio.run(sells())
+        self.verify(folder)
+
+    def test_a_door(self) -> None:
+        folder = self.folder(LARGE)
+        door = self.opened(Door(folder, os.path.join(self.place, "door"), "--keep", str(KEEP), "--archive"))
+        self.sell(self.connected(door))
+        self.assertEqual(door.close(), 0)
+        self.verify(folder)
+
+    def test_without_keep_it_is_refused(self) -> None:
+        """By the program."""
+        folder = self.folder(LARGE)
+        with self.assertRaises(escrow.Down) as raised:
+            escrow.Site(folder, program=escrow_site(), archive=True)
+        self.assertEqual(raised.exception.status, 2)
+        self.assertIn("--keep <BYTES>", str(raised.exception))
+        door = self.opened(Door(folder, os.path.join(self.place, "door"), "--archive"))
+        self.assertEqual(door.close(), 2)
+        self.assertIn("--keep <BYTES>", door.text())
 
 
 if __name__ == "__main__":

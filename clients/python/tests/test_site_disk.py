@@ -13,7 +13,8 @@ import unittest
 import unittest.mock
 from typing import Optional
 
-from programs import LARGE, TOP, SiteTest, commits, escrow_site, of_large, wait_until
+from doors import DoorTest
+from programs import LARGE, SHOP, TOP, SiteTest, commits, escrow_site, of_large, wait_until
 import escrow
 from escrow import DeviceFault, Outcome, Share
 from escrow.device import device_fault
@@ -245,6 +246,57 @@ class RoomTest(DiskTest):
             self.assertNotIn("the disk is full", text)
         time.sleep(1.2)
         self.assertEqual((site.counts.starts, site.counts.stops), (1, 1))
+
+
+class BarredTest(DoorTest):
+    """A file of the folder that this user may not read, and what stands where `log.new` is to be: nothing is wrong with the disk."""
+
+    TOLD = {
+        "log: Permission denied (os error 13)": "serve the site as the owner of its files",
+        "log: Operation not permitted (os error 1)": "let this user read and write them",
+        "log.new: Operation not permitted (os error 1)": "move it away, or let this user do so: nothing in it counts",
+    }
+
+    def stub(self, why: str) -> str:
+        """A program that ends so."""
+        program = os.path.join(self.place, "barred")
+        with open(program, "w", encoding="ascii") as file:
+            file.write(f"#!/bin/sh\necho 'escrow_site: shop/{why}' >&2\nexit 5\n")
+        os.chmod(program, 0o755)
+        return program
+
+    def says(self, text: str, remedy: str) -> None:
+        """It tells that, and nothing of the disk."""
+        self.assertIn(remedy, text)
+        for word in ("make room", "mend the disk", "start the machine anew"):
+            self.assertNotIn(word, text)
+
+    def test_who_may_read_it(self) -> None:
+        folder = self.folder()
+        for why, remedy in self.TOLD.items():
+            with self.subTest(why), self.assertRaises(escrow.Down) as raised:
+                escrow.Site(folder, program=self.stub(why))
+            self.assertEqual(raised.exception.status, 5)
+            self.says(str(raised.exception), remedy)
+
+    def test_of_a_door(self) -> None:
+        why, remedy = next(iter(self.TOLD.items()))
+        door = self.door(SHOP, program=self.stub(why))
+        self.assertEqual(door.close(), 5)
+        self.says(door.text(), remedy)
+
+    def test_a_folder_in_place_of_the_new_log(self) -> None:
+        folder = self.folder()
+        os.mkdir(os.path.join(folder, "log.new"))
+        with self.assertRaises(escrow.Down) as raised:
+            escrow.Site(folder, program=escrow_site())
+        self.assertEqual(raised.exception.status, 5)
+        self.says(str(raised.exception), "log.new: Is a directory (os error 21): move it away")
+
+    def test_other_faults_at_a_start(self) -> None:
+        with self.assertRaises(escrow.Down) as raised:
+            escrow.Site(self.folder(), program=self.stub("log: Input/output error (os error 5)"))
+        self.assertIn("make room or mend the disk", str(raised.exception))
 
 
 @unittest.skipIf(not COMPILER, "no C compiler is installed here")

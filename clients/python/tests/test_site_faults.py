@@ -338,7 +338,7 @@ class ExceptionsTest(SiteTest):
             escrow.NoKeys(),
             escrow.Down("why", 5),
             escrow.OtherSite("9c1f0a2b-1-1.1", 1, 0),
-            escrow.OtherWorld("9c1f0a2b-0-1.1", "9c1f0a2b", "00000000", 1, 1),
+            escrow.OtherWorld("9c1f0a2b-0-1.1", "9c1f0a2b", "00000000", (1, 1)),
             escrow.ProgramError(3, "why"),
         ]
         ways: list[Callable[[escrow.EscrowError], object]] = [

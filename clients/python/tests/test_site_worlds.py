@@ -75,6 +75,7 @@ class OtherWorldTest(SiteTest):
             for id in (*world.committed, world.aborted, f"{front}-9.9"):
                 told = self.told(world, ask, id)
                 self.assertIn(f"{id}: this id is of another world ({front})", told)
+                self.assertIn("of what the log still holds; where it let go of some", told)
 
     async def outcome(self, shop: escrow.AsyncSite, id: str) -> Outcome:
         """What a task is told."""

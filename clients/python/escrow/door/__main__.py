@@ -13,11 +13,12 @@ from collections.abc import Sequence
 from typing import Optional
 
 from ..errors import Down, EscrowError, Faulty
+from ..numbers import keep_of
 from ..program import find_program
 from ..room import has_room
 from ..schema import Identity, identity
 from ..site import lock_folder
-from ..supervisor import FULL, HOPELESS, LOOK, Backoff
+from ..supervisor import FULL, HOPELESS, LOOK, Backoff, hopeless
 from ..values import Mark
 from .listening import Place, passed
 from .run import Limits, Run
@@ -37,6 +38,14 @@ def mode_of(text: str) -> int:
     return mode
 
 
+def kept_bytes(text: str) -> int:
+    """A number of bytes to keep."""
+    try:
+        return keep_of(int(text))
+    except ValueError as fault:
+        raise argparse.ArgumentTypeError(str(fault)) from fault
+
+
 def arguments(words: Optional[Sequence[str]] = None) -> argparse.Namespace:
     """What the command line tells."""
     parser = argparse.ArgumentParser(prog="python3 -m escrow.door", description=USAGE)
@@ -46,7 +55,9 @@ def arguments(words: Optional[Sequence[str]] = None) -> argparse.Namespace:
     parser.add_argument("--program", metavar="PATH", help="escrow_site (else $ESCROW_SITE, or the one on the path)")
     parser.add_argument("--trace", action="store_true", help="keep a trace: from the first start on and always, or never")
     parser.add_argument("--no-sync", action="store_true", help="don't sync: a stop of the machine may lose what was answered")
-    parser.add_argument("--keep", type=int, metavar="BYTES", help="let go of the log's front, but for so many bytes at least")
+    parser.add_argument("--keep", type=kept_bytes, metavar="BYTES",
+                        help="let go of the log's front, but for so many bytes at least")  # fmt: skip
+    parser.add_argument("--archive", action="store_true", help="with --keep: the log stays as it was each time, for verify")
     parser.add_argument("--not-before", nargs=2, type=int, metavar=("EPOCH", "LENGTH"), help="refuse a log that is older")
     parser.add_argument("--slow", type=float, default=30.0, metavar="SECONDS",
                         help="end a connection that takes no answer for so long (30)")  # fmt: skip
@@ -63,6 +74,7 @@ class Door:
         self._lock = lock_folder(self.folder)
         options = [*(["--trace"] if told.trace else []), *(["--no-sync"] if told.no_sync else [])]
         options += [] if told.keep is None else ["--keep", str(told.keep)]
+        options += ["--archive"] if told.archive else []
         self._command = [_program(told.program), "serve", self.folder, *options]
         self._mark = Mark(*told.not_before) if told.not_before else None
         self._limits = Limits(told.slow)
@@ -85,7 +97,7 @@ class Door:
             if self._is_told_to_end():
                 return 0
             if ended.status in HOPELESS and not ended.is_full(self.folder):
-                raise Down(ended.told + HOPELESS[ended.status], ended.status)
+                raise hopeless(ended.status, ended.told)
             self._wait(pause, ended)
             pause = backoff.first if time.monotonic() - began > 1.0 else min(2 * pause, backoff.most)
 

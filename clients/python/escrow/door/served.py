@@ -2,6 +2,7 @@
 
 from __future__ import annotations
 
+import logging
 import os
 import select
 import signal
@@ -9,10 +10,13 @@ import subprocess
 from collections.abc import Sequence
 from typing import NamedTuple, Optional
 
+from ..complaints import Complaints
 from ..device import device_fault
 from ..room import has_room
 from ..supervisor import DISK, Ready, read_ready
 from ..values import Mark
+
+log = logging.getLogger("escrow.door")
 
 
 class Ended(NamedTuple):
@@ -38,7 +42,8 @@ class Served:
         pipe = subprocess.PIPE
         self._process = subprocess.Popen([*command, *later], stdin=pipe, stdout=pipe, stderr=pipe, bufsize=0,
                                          start_new_session=True)  # fmt: skip
-        assert self._process.stdin and self._process.stdout
+        assert self._process.stdin and self._process.stdout and self._process.stderr
+        self._complaints = Complaints(self._process.stderr, log)
         self.to, self.back = self._process.stdin.fileno(), self._process.stdout.fileno()
         os.set_blocking(self.to, False)
 
@@ -73,14 +78,12 @@ class Served:
     def end(self, seconds: float) -> Ended:
         """Ends its input and waits for its end: after so many seconds by force."""
         process = self._process
-        assert process.stdin and process.stdout and process.stderr
+        assert process.stdin and process.stdout
         process.stdin.close()
         try:
             process.wait(seconds)
         except subprocess.TimeoutExpired:
             self.kill()
-        told = process.stderr.read().decode(errors="replace").strip()
         status = process.wait()
         process.stdout.close()
-        process.stderr.close()
-        return Ended(status, told or f"it ended with status {status}")
+        return Ended(status, self._complaints.text() or f"it ended with status {status}")

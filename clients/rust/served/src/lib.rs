@@ -146,13 +146,18 @@ fn refusal(heard: &Heard) -> Option<&String> {
 impl Site {
     /// Starts the program over this folder, and reads `ready 1 EPOCH LENGTH`, or 2, and the line of the restart.
     pub fn start(program: &str, folder: &str) -> Result<Site, Fault> {
+        Site::start_with(program, folder, &[])
+    }
+
+    /// [`Site::start`] with options of `serve`, word by word: `&["--keep", "1048576"]` lets go of the front of the log while it serves.
+    /// Of one that there isn't standard error tells, and this is [`Fault::Ended`] with status 2.
+    pub fn start_with(program: &str, folder: &str, options: &[&str]) -> Result<Site, Fault> {
         let whose = std::fs::read_to_string(format!("{folder}/site")).map_err(Fault::Io)?;
-        let world =
-            whose.lines().find_map(|it| it.strip_prefix("world ")).and_then(|it| it.get(..8)).unwrap_or_default().to_string();
+        let world = whose.lines().find_map(|it| it.strip_prefix("world ")?.get(..8)).unwrap_or_default().to_string();
         let folder = if folder.starts_with('-') { format!("./{folder}") } else { folder.to_string() }; // no option
         let mut command = Command::new(program);
-        let mut child =
-            command.args(["serve", &folder]).stdin(Stdio::piped()).stdout(Stdio::piped()).spawn().map_err(Fault::Io)?;
+        command.args(["serve", &folder]).args(options).stdin(Stdio::piped()).stdout(Stdio::piped());
+        let mut child = command.spawn().map_err(Fault::Io)?;
         let (pipe, mut output) = (child.stdin.take().expect("is piped"), BufReader::new(child.stdout.take().expect("is piped")));
         let mut told = String::new();
         let _ = output.read_line(&mut told).and_then(|_| output.read_line(&mut told));
@@ -184,9 +189,8 @@ impl Site {
 
     fn new(names: [String; 3], ready: (u32, bool), lines: Arc<Lines>, input: impl BufRead + Send + 'static) -> Site {
         let ([world, number, header], (epoch, may_forget)) = (names, ready);
-        let reads = lines.clone();
+        let (reads, keys, open) = (lines.clone(), Mutex::default(), Mutex::default());
         let reader = Some(thread::spawn(move || reads.read(input)));
-        let (keys, open) = (Mutex::default(), Mutex::default());
         Site { world, number, epoch, may_forget, header, limit: None, lines, child: None, reader, keys, open }
     }
 
@@ -337,7 +341,7 @@ impl Site {
         let (world, site) = front.split_once('-').unwrap_or((front, &self.number));
         let told = place(line).ok_or_else(|| of_id(id, "is no id"))?;
         if !front.is_empty() && world != self.world {
-            return Err(of_id(id, "this id is of another world: look in the old folder's log"));
+            return Err(of_id(id, "this id is of another world: look in the log and the archives of its old folder"));
         } else if site != self.number {
             return Err(of_id(id, &format!("this id is of site {site}: ask that one")));
         } else if told.0 > self.epoch {

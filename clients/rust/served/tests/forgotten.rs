@@ -195,6 +195,27 @@ fn a_log_that_is_whole_is_told_no_position() {
     assert!(!fs::read_to_string(format!("{folder}/lines")).unwrap().contains("since"));
 }
 
+/// Over the real program, which lets go of the front of its log.
+#[test]
+fn options_are_those_of_the_program() {
+    let folder = forgetful("options", "{}");
+    let real = var("ESCROW_SITE").unwrap();
+    let site = Site::start_with(&real, &folder, &["--keep", "0", "--no-sync"]).unwrap();
+    let (first, start) = (committed(site.change("stock", -1)), site.position().unwrap());
+    for _ in 0..4_000 {
+        committed(site.change("stock", -1));
+        committed(site.change("stock", 1));
+    }
+    assert!(is_forgotten(site.kept(&first), &first) && is_forgotten(site.kept_key("order", Some(&start)), "order"));
+    let size = fs::metadata(format!("{folder}/log")).unwrap().len();
+    assert!(size < 60_000, "{size}: 8,001 commits are 120,000 bytes");
+    site.end().unwrap();
+    for options in [&["--keep"][..], &["--keep", "many"], &["--kept", "0"]] {
+        let told = Site::start_with(&real, &folder, options).err().unwrap();
+        assert!(matches!(&told, Fault::Ended(it) if it.code() == Some(2)), "{options:?}: {told}");
+    }
+}
+
 #[test]
 fn a_newer_program_is_refused() {
     let folder = forgetful("newer", r#"{"version": 3}"#);
