@@ -68,7 +68,8 @@ is_packed() {
     elif [ "$(told machine)" != "$(uname -sm)" ]; then
         why="it is for $(told machine), and this machine is $(uname -sm)"
     elif [ "$(told sources)" != "$(sources_sum)" ]; then
-        why='it was built of other sources than these (`git status` shows edits)'
+        why='it was built of other sources than these: `git status` tells edits of yours; where there are none'
+        why="$why the sources went on since it was packed, and \`git log -1 packed\` names a commit that has both"
     else
         return 0
     fi
