@@ -25,6 +25,7 @@ PROMISES = {
 }
 NAME = re.compile(r"(?<![\w.'])[A-Za-z_]\w*")
 HEAD = re.compile(r"^(?:(?:abbrev|unfoldable)(?: pub)?|pub record|pub data) (?!pub )(\S+)")
+DATA = re.compile(r"^pub data (\S+).*\n((?:  \S+ : .*\n)*)", re.M)
 
 
 class Definition(NamedTuple):
@@ -38,10 +39,12 @@ class Definition(NamedTuple):
 
 
 class Module(NamedTuple):
-    """A file of definitions: the lines of each, in order, and where the names come from that it uses."""
+    """A file of definitions: the lines of each, in order, where the names come from that it uses, and of which type each
+    constructor is."""
 
     bodies: dict[str, list[str]]
     used: dict[str, Definition]
+    types: dict[str, str]
 
 
 def imports(text: str) -> dict[str, Definition]:
@@ -61,7 +64,8 @@ def read_module(crate: str, module: str) -> Module:
             own = bodies.setdefault(found[1], [])
         if line.strip() and not line.startswith(("use ", "pub mod", "pub use", "infix")):
             own.append(line)
-    return Module(bodies, imports(text) | {name: Definition(crate, module, name) for name in bodies})
+    types = {line.split()[0]: it for it, lines in DATA.findall(text) for line in lines.splitlines()}
+    return Module(bodies, imports(text) | {name: Definition(crate, module, name) for name in [*bodies, *types]}, types)
 
 
 def names_in(text: str) -> set[str]:
@@ -97,9 +101,10 @@ class Closure:
         ahead = [used[it] for it in names_in(contract(file, owner, promise.rpartition(":")[2])) if it in used]
         while ahead:
             it = ahead.pop()
+            module = self.module(it.crate, it.module)
+            it = it._replace(name=module.types.get(it.name, it.name))
             if it in found:
                 continue
-            module = self.module(it.crate, it.module)
             if it.name not in module.bodies:
                 raise SystemExit(f"{it.file} has no definition {it.name}")
             found.add(it)

@@ -1,6 +1,6 @@
 //! Texts of notes and records, split.
 
-ghost use Rattle.std.specs.Prelude.{◌≡◌, ◌≢◌, ◌↔◌, ◌++◌, ◌∷◌, [], List, All, MatchOption, IfOk, OnOk, IsOk, IsTrue};
+ghost use Rattle.std.specs.Prelude.{◌≡◌, ◌≢◌, ◌↔◌, ◌++◌, ◌∷◌, [], List, All, IfOk, OnOk, IsOk, IsTrue};
 ghost use Rattle.caller_keys.specs.Keys.{IsKey, KeyNote, note_of, IsKeyed};
 ghost use Rattle.caller_keys.specs.Tables.{Splits, Tells};
 ghost use Rattle.caller_keys.specs.Reading.{IsOneLine, Takes};
@@ -9,17 +9,9 @@ use crate::key::Key;
 use crate::reading::read_note;
 use crate::table::KeyTable;
 use field_bounds::TxnId;
+use line_words::split_line;
 use memchr::memchr;
 use std::alloc::{AllocError, Global};
-
-// The bytes before the first line feed, and those after it, or None where there is no line feed.
-fn split_line(bytes: &[u8]) -> Option<(&[u8], &[u8])>
-    ensures parts { MatchOption result (IsOneLine bytes.now)
-        (λ parts. IsOneLine parts.0.now × (bytes.now ≡ parts.0.now ++ 10 ∷ parts.1.now)) }
-{
-    let at = memchr(b'\n', bytes)?;
-    Some((&bytes[..at], &bytes[at + 1..]))
-}
 
 // Notes a key that was read.
 fn note_read(keys: &mut KeyTable, key: &[u8], txn: TxnId) -> Result<(), AllocError>

@@ -8,12 +8,13 @@ use Rattle.field_bounds.specs.declared.entry.Escrow.{Escrow as EscrowOf}
 use Rattle.field_bounds.specs.declared.entry.Command.{Command}
 use Rattle.field_bounds.specs.declared.entry.Command.TheVariants.{Begin, Escrow, Commit, Abort, Give, Restate, Spare, Tighten, Accept, Read, Share, Restart}
 use Rattle.field_bounds.specs.declared.entry.Reply.{Reply}
-use Rattle.field_bounds.specs.declared.entry.Reply.TheVariants.{Begun, Granted, Committed, Aborted, Given, Stated, Spared, Tightened, Accepted, Between, Shares, Restarted, Unsure, StillDown, Refused}
+use Rattle.field_bounds.specs.declared.entry.Reply.TheVariants.{Begun, Granted, Committed, Aborted, Given, Spared, Tightened, Accepted, Restarted, Unsure}
 use Rattle.field_bounds.specs.declared.entry.Entry.{Entry}
 use Rattle.field_bounds.specs.Kind.{other, kind_of}
 use Rattle.field_bounds.specs.Schema.{SchemaValue}
 use Rattle.field_bounds.specs.Effects.{Base, fresh, is_begun, is_open, open_txns, escrows_of, takes, total_given, total_accepted, cut, share, held_rights, spare_amount, says_doubt_kept, effect_of, effects}
 use Rattle.field_bounds.specs.Owed.{Place, place, is_up, epoch_of, count_since, is_begun_reply, is_still_down, is_unsure}
+use Rattle.field_bounds.specs.Shape.{answered, restarted, in_doubt, stays_down, refused, shape}
 use Rattle.central_machine.specs.declared.numbers.Numbers.{Numbers}
 use Rattle.central_machine.specs.declared.site_totals.SiteTotals.{SiteTotals}
 use Rattle.central_machine.specs.SparseTotals.{told, has_spot, IsTold}
@@ -178,21 +179,8 @@ effect_by shares Restart reply = None
 
 -- What is in doubt after one more reply: nothing after a restart, and after a reply in doubt what its command would do.
 abbrev pub doubt_after : Option Effect → Reply → Option Effect → Option Effect
-doubt_after effect (Begun txn) before = before
-doubt_after effect Granted before = before
-doubt_after effect Committed before = before
-doubt_after effect Aborted before = before
-doubt_after effect (Given total) before = before
-doubt_after effect (Stated total) before = before
-doubt_after effect (Spared amount total) before = before
-doubt_after effect (Tightened total) before = before
-doubt_after effect (Accepted gain) before = before
-doubt_after effect (Between lo hi) before = before
-doubt_after effect (Shares lower raise) before = before
-doubt_after effect (Restarted epoch found) before = None
-doubt_after effect Unsure before = effect
-doubt_after effect StillDown before = before
-doubt_after effect (Refused refusal) before = before
+doubt_after effect r before =
+    elim (shape r) [ answered ↦ before | restarted _ _ ↦ None | in_doubt ↦ effect | stays_down ↦ before | refused _ ↦ before ]
 
 -- What the next restart of a site settles.
 abbrev pub doubt : Base → List Entry → Option Effect
@@ -210,22 +198,14 @@ MayTake (Some e) n m = Takes e n m
 
 -- The numbers after one more reply, with this effect where it isn't in doubt.
 abbrev pub NumbersAfter : Option Effect → Reply → Option Effect → Numbers → Numbers → Type 0
-NumbersAfter effect (Begun txn) d n m = MayTake effect n m
-NumbersAfter effect Granted d n m = MayTake effect n m
-NumbersAfter effect Committed d n m = MayTake effect n m
-NumbersAfter effect Aborted d n m = MayTake effect n m
-NumbersAfter effect (Given total) d n m = MayTake effect n m
-NumbersAfter effect (Stated total) d n m = MayTake effect n m
-NumbersAfter effect (Spared amount total) d n m = MayTake effect n m
-NumbersAfter effect (Tightened total) d n m = MayTake effect n m
-NumbersAfter effect (Accepted gain) d n m = MayTake effect n m
-NumbersAfter effect (Between lo hi) d n m = MayTake effect n m
-NumbersAfter effect (Shares lower raise) d n m = MayTake effect n m
-NumbersAfter effect (Restarted epoch found) d n m = (mid : Numbers) × MayTake (settled_effect (says_doubt_kept found) d) n mid
-    × MayTake effect mid m
-NumbersAfter effect Unsure d n m = m ≡ n
-NumbersAfter effect StillDown d n m = MayTake effect n m
-NumbersAfter effect (Refused refusal) d n m = MayTake effect n m
+NumbersAfter effect r d n m =
+    elim (shape r) [
+      | answered ↦ MayTake effect n m
+      | restarted _ found ↦ (mid : Numbers) × MayTake (settled_effect (says_doubt_kept found) d) n mid × MayTake effect mid m
+      | in_doubt ↦ m ≡ n
+      | stays_down ↦ MayTake effect n m
+      | refused _ ↦ MayTake effect n m
+    ]
 
 -- ---- the totals
 

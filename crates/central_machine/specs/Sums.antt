@@ -6,13 +6,13 @@ use Rattle.field_bounds.specs.declared.effect.Effect.{Effect}
 use Rattle.field_bounds.specs.declared.effect.Effect.TheVariants.{Begins, Grants, Commits, Aborts, Gives, Accepts, Stops}
 use Rattle.field_bounds.specs.declared.entry.Escrow.{Escrow as EscrowOf}
 use Rattle.field_bounds.specs.declared.entry.Reply.{Reply}
-use Rattle.field_bounds.specs.declared.entry.Reply.TheVariants.{Begun, Granted, Committed, Aborted, Given, Stated, Spared, Tightened, Accepted, Between, Shares, Restarted, Unsure, StillDown, Refused}
 use Rattle.field_bounds.specs.declared.entry.Entry.{Entry}
 use Rattle.field_bounds.specs.Kind.{other, kind_of, same_kind}
 use Rattle.field_bounds.specs.Schema.{SchemaValue}
 use Rattle.field_bounds.specs.Parts.{field_at}
 use Rattle.field_bounds.specs.Effects.{says_doubt_kept}
 use Rattle.field_bounds.specs.Central.{committed_value, open_sizes, cuts}
+use Rattle.field_bounds.specs.Shape.{answered, restarted, in_doubt, stays_down, refused, shape}
 use Rattle.central_machine.specs.declared.amounts.FieldAmounts.{FieldAmounts}
 use Rattle.central_machine.specs.declared.journal.OpenRow.{OpenRow}
 use Rattle.central_machine.specs.declared.field_sums.FieldSums.{FieldSums}
@@ -93,22 +93,14 @@ SumsTake (Some Stops) rows n m = m ≡ n
 
 -- The sums after one more reply, with this effect where it isn't in doubt.
 abbrev pub SumsAfter : Option Effect → Reply → Option Effect → List OpenRow → FieldSums → FieldSums → Type 0
-SumsAfter effect (Begun txn) d rows n m = SumsTake effect rows n m
-SumsAfter effect Granted d rows n m = SumsTake effect rows n m
-SumsAfter effect Committed d rows n m = SumsTake effect rows n m
-SumsAfter effect Aborted d rows n m = SumsTake effect rows n m
-SumsAfter effect (Given total) d rows n m = SumsTake effect rows n m
-SumsAfter effect (Stated total) d rows n m = SumsTake effect rows n m
-SumsAfter effect (Spared amount total) d rows n m = SumsTake effect rows n m
-SumsAfter effect (Tightened total) d rows n m = SumsTake effect rows n m
-SumsAfter effect (Accepted gain) d rows n m = SumsTake effect rows n m
-SumsAfter effect (Between lo hi) d rows n m = SumsTake effect rows n m
-SumsAfter effect (Shares lower raise) d rows n m = SumsTake effect rows n m
-SumsAfter effect (Restarted epoch found) d rows n m =
-    (mid : FieldSums) × SettlesDoubt (settled_effect (says_doubt_kept found) d) rows n mid × Closes mid m (all_escrows rows)
-SumsAfter effect Unsure d rows n m = m ≡ n
-SumsAfter effect StillDown d rows n m = SumsTake effect rows n m
-SumsAfter effect (Refused refusal) d rows n m = SumsTake effect rows n m
+SumsAfter effect r d rows n m =
+    elim (shape r) [
+      | answered ↦ SumsTake effect rows n m
+      | restarted _ found ↦ (mid : FieldSums) × SettlesDoubt (settled_effect (says_doubt_kept found) d) rows n mid × Closes mid m (all_escrows rows)
+      | in_doubt ↦ m ≡ n
+      | stays_down ↦ SumsTake effect rows n m
+      | refused _ ↦ SumsTake effect rows n m
+    ]
 
 -- The amounts of a field are how far its start value stands above the floor and below the ceiling.
 pub record IsRoom (schema : SchemaValue) (f : ℕ) (a : FieldAmounts) : Type 0 where

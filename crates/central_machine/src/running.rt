@@ -3,6 +3,7 @@
 ghost use Rattle.std.specs.Prelude.{◌≡◌, ◌≢◌, ◌<◌, length, List, ◌∷◌, [], OnOk, IfOk, None};
 ghost use Rattle.field_bounds.specs.declared.entry.Entry.{Entry};
 ghost use Rattle.field_bounds.specs.Schema.{SchemaValue};
+ghost use Rattle.central_rules.specs.Entries.{most_entries};
 ghost use Rattle.central_rules.specs.declared.verdict.Verdict.TheVariants.{Legal};
 ghost use Rattle.central_rules.specs.declared.verdict.Rule.TheVariants.{Statement as Told};
 ghost use Rattle.central_rules.specs.Verdict.{broken_rule, first_broken, verdict_back, test_of};
@@ -80,7 +81,7 @@ impl Running {
     /// Takes the totals of a front to those of the front with the next entry.
     #[inline(always)]
     fn step(&mut self, alloc: Global, schema: &Schema, entry: &Entry) -> Result<(), AllocError>
-        ensures { OnOk result ((t : List Entry) → length t < 230584300921369395 →
+        ensures { OnOk result ((t : List Entry) → length t < most_entries →
             AreRunning schema.now t self.old → verdict_back schema.now t ≡ Legal →
             broken_rule schema.now t entry.now ≡ None →
             AreRunning schema.now (entry.now ∷ t) self.new) }
@@ -101,7 +102,7 @@ impl Running {
     ) -> Result<Option<Rule>, AllocError>
         ensures rule { IfOk result (λ rule. (t : List Entry) → AreRunning schema.now t self.old →
             rule ≡ broken_rule schema.now t entry.now) }
-        ensures totals { IfOk result (λ rule. (t : List Entry) → length t < 230584300921369395 →
+        ensures totals { IfOk result (λ rule. (t : List Entry) → length t < most_entries →
             AreRunning schema.now t self.old → verdict_back schema.now t ≡ Legal → rule ≡ None →
             AreRunning schema.now (entry.now ∷ t) self.new) }
         ensures kept { IfOk result (λ rule. rule ≢ None → self.new ≡ self.old) }
@@ -122,7 +123,7 @@ impl Running {
     ) -> Result<Option<Rule>, AllocError>
         ensures rule { IfOk result (λ rule. (t : List Entry) → AreRunning schema.now t self.old →
             rule ≡ broken_rule schema.now t entry.now) }
-        ensures totals { IfOk result (λ rule. (t : List Entry) → length t < 230584300921369395 →
+        ensures totals { IfOk result (λ rule. (t : List Entry) → length t < most_entries →
             AreRunning schema.now t self.old → verdict_back schema.now t ≡ Legal → rule ≡ None →
             AreRunning schema.now (entry.now ∷ t) self.new) }
         ensures kept { IfOk result (λ rule. rule ≢ None → self.new ≡ self.old) }
@@ -139,7 +140,7 @@ impl Running {
     ) -> Result<Option<Rule>, AllocError>
         ensures rule { IfOk result (λ rule. (t : List Entry) → AreRunning schema.now t self.old →
             rule ≡ broken_rule schema.now t entry.now) }
-        ensures totals { IfOk result (λ rule. (t : List Entry) → length t < 230584300921369395 →
+        ensures totals { IfOk result (λ rule. (t : List Entry) → length t < most_entries →
             AreRunning schema.now t self.old → verdict_back schema.now t ≡ Legal → rule ≡ None →
             AreRunning schema.now (entry.now ∷ t) self.new) }
         ensures kept { IfOk result (λ rule. rule ≢ None → self.new ≡ self.old) }

@@ -4,6 +4,7 @@ ghost use Rattle.std.specs.Prelude.{◌≡◌, ◌<◌, ℕ, length, slice_get, 
 ghost use Rattle.field_bounds.specs.declared.entry.Entry.{Entry};
 ghost use Rattle.field_bounds.specs.Schema.{SchemaValue};
 ghost use Rattle.field_bounds.specs.Effects.{fresh};
+ghost use Rattle.central_rules.specs.Entries.{most_entries};
 ghost use Rattle.central_rules.specs.declared.verdict.Verdict.TheVariants.{Legal};
 ghost use Rattle.central_rules.specs.declared.verdict.Rule.TheVariants.{Reply as Owed};
 ghost use Rattle.central_rules.specs.Verdict.{broken_rule, verdict_back, test_of};
@@ -90,7 +91,7 @@ impl FrontTotals {
         schema: &Schema,
         entry: &Entry,
     ) -> Result<(), AllocError>
-        ensures { OnOk result ((t : List Entry) → length t < 230584300921369395 →
+        ensures { OnOk result ((t : List Entry) → length t < most_entries →
             AreTotals schema.now t self.old → verdict_back schema.now t ≡ Legal →
             broken_rule schema.now t entry.now ≡ None →
             AreTotals schema.now (entry.now ∷ t) self.new) }
@@ -159,7 +160,7 @@ impl FrontTotals {
     ) -> Result<Option<Rule>, AllocError>
         ensures rule { IfOk result (λ rule. (t : List Entry) → AreTotals schema.now t self.old →
             rule ≡ totals_broken schema.now t entry.now) }
-        ensures totals { IfOk result (λ rule. (t : List Entry) → length t < 230584300921369395 →
+        ensures totals { IfOk result (λ rule. (t : List Entry) → length t < most_entries →
             AreTotals schema.now t self.old → verdict_back schema.now t ≡ Legal → rule ≡ None →
             broken_rule schema.now t entry.now ≡ None →
             AreTotals schema.now (entry.now ∷ t) self.new) }
@@ -180,7 +181,7 @@ impl FrontTotals {
     ) -> Result<Option<Rule>, AllocError>
         ensures rule { IfOk result (λ rule. (t : List Entry) → AreTotals schema.now t self.old →
             rule ≡ totals_broken schema.now t entry.now) }
-        ensures totals { IfOk result (λ rule. (t : List Entry) → length t < 230584300921369395 →
+        ensures totals { IfOk result (λ rule. (t : List Entry) → length t < most_entries →
             AreTotals schema.now t self.old → verdict_back schema.now t ≡ Legal → rule ≡ None →
             broken_rule schema.now t entry.now ≡ None →
             AreTotals schema.now (entry.now ∷ t) self.new) }
@@ -197,7 +198,7 @@ impl FrontTotals {
     ) -> Result<Option<Rule>, AllocError>
         ensures rule { IfOk result (λ rule. (t : List Entry) → AreTotals schema.now t self.old →
             rule ≡ totals_broken schema.now t entry.now) }
-        ensures totals { IfOk result (λ rule. (t : List Entry) → length t < 230584300921369395 →
+        ensures totals { IfOk result (λ rule. (t : List Entry) → length t < most_entries →
             AreTotals schema.now t self.old → verdict_back schema.now t ≡ Legal → rule ≡ None →
             broken_rule schema.now t entry.now ≡ None →
             AreTotals schema.now (entry.now ∷ t) self.new) }

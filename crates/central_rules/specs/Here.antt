@@ -7,6 +7,7 @@ use Rattle.field_bounds.specs.Schema.{SchemaValue}
 use Rattle.field_bounds.specs.Effects.{fresh}
 use Rattle.field_bounds.specs.Owed.{Place, place, is_up, epoch_of, count_since, is_begun_reply, is_still_down, is_unsure}
 use Rattle.field_bounds.specs.Central.{own}
+use Rattle.central_rules.specs.Entries.{most_entries}
 use Rattle.central_rules.specs.declared.site_counts.SiteCounts.{SiteCounts}
 
 -- Where a site stands after a front, the newest entry first.
@@ -30,7 +31,7 @@ pub record Shows (at : Place) (site_counts : SiteCounts) (list : List Effect) : 
   pub begun : site_counts.begun ≡ count_since is_begun_reply at.entries
   pub still_down : site_counts.still_down ≡ count_since is_still_down at.entries
   pub unsure : site_counts.unsure ≡ count_since is_unsure at.entries
-  pub few : (site_counts.begun ≤ 230584300921369395) × (site_counts.still_down ≤ 230584300921369395)
-      × (site_counts.unsure ≤ 230584300921369395)
+  pub few : (site_counts.begun ≤ most_entries) × (site_counts.still_down ≤ most_entries)
+      × (site_counts.unsure ≤ most_entries)
   pub made : reverse list ≡ at.effects
-  pub few_made : length list ≤ 230584300921369395
+  pub few_made : length list ≤ most_entries

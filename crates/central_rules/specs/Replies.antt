@@ -2,7 +2,6 @@
 use Rattle.std.specs.Prelude.{ℕ, ◌+◌, ◌==◌, nat_le, Bool, true, false, not, ◌&&◌, ◌||◌, if◌then◌else◌, Option, Some, None}
 use Rattle.std.specs.Ordering.{int_eq}
 use Rattle.field_bounds.specs.declared.entry.Command.{Command}
-use Rattle.field_bounds.specs.declared.entry.Command.TheVariants.{Begin, Escrow, Commit, Abort, Give, Restate, Spare, Tighten, Accept, Read, Share, Restart}
 use Rattle.field_bounds.specs.declared.entry.Reply.{Reply}
 use Rattle.field_bounds.specs.declared.entry.Reply.TheVariants.{Begun, Granted, Committed, Aborted, Given, Stated, Spared, Tightened, Accepted, Between, Shares, Restarted, Unsure, StillDown, Refused}
 use Rattle.field_bounds.specs.declared.entry.Refusal.{Refusal}
@@ -11,6 +10,7 @@ use Rattle.field_bounds.specs.declared.entry.Last.{Last}
 use Rattle.field_bounds.specs.declared.entry.Last.TheVariants.{Nothing, Kept, Lost}
 use Rattle.field_bounds.specs.Effects.{same_txn}
 use Rattle.field_bounds.specs.Owed.{Place, first, refusals, answer, writes, epoch_of, count_since, is_still_down, is_unsure, max_epoch}
+use Rattle.field_bounds.specs.Shape.{answered, restarted, in_doubt, stays_down, refused, shape, asks_restart}
 
 -- ---- whether two replies are the same
 
@@ -94,22 +94,14 @@ found_test unsure found = if unsure == 0 then same_found found Nothing else not 
 
 -- What a restart may answer, in an epoch, with so many restarts that failed and so many replies in doubt since the last one.
 abbrev pub restart_test : ℕ → ℕ → ℕ → Reply → Bool
-restart_test epoch still unsure (Begun txn) = false
-restart_test epoch still unsure Granted = false
-restart_test epoch still unsure Committed = false
-restart_test epoch still unsure Aborted = false
-restart_test epoch still unsure (Given total) = false
-restart_test epoch still unsure (Stated total) = false
-restart_test epoch still unsure (Spared amount total) = false
-restart_test epoch still unsure (Tightened total) = false
-restart_test epoch still unsure (Accepted gain) = false
-restart_test epoch still unsure (Between lo hi) = false
-restart_test epoch still unsure (Shares lower raise) = false
-restart_test epoch still unsure (Restarted next found) =
-    nat_le (epoch + 1) next && (nat_le next (epoch + still + 1) && (nat_le next max_epoch && found_test unsure found))
-restart_test epoch still unsure Unsure = false
-restart_test epoch still unsure StillDown = true
-restart_test epoch still unsure (Refused refusal) = same_refusal refusal NumbersFull && nat_le max_epoch (epoch + still)
+restart_test epoch still unsure r =
+    elim (shape r) [
+      | answered ↦ false
+      | restarted next found ↦ nat_le (epoch + 1) next && (nat_le next (epoch + still + 1) && (nat_le next max_epoch && found_test unsure found))
+      | in_doubt ↦ false
+      | stays_down ↦ true
+      | refused refusal ↦ same_refusal refusal NumbersFull && nat_le max_epoch (epoch + still)
+    ]
 
 -- The reply is the refusal, or else the answer, or in doubt where it may be.
 abbrev pub answer_test : Option Refusal → Reply → Bool → Reply → Bool
@@ -118,23 +110,7 @@ answer_test (Some refusal) owed unsure reply = same_reply reply (Refused refusal
 
 -- Whether a site may give this reply to this command.
 abbrev pub reply_test : Place → Command → Reply → Bool
-reply_test at Begin reply = answer_test (first (refusals at Begin)) (answer at Begin) (writes at Begin) reply
-reply_test at (Escrow txn field change) reply = answer_test (first (refusals at (Escrow txn field change)))
-    (answer at (Escrow txn field change)) (writes at (Escrow txn field change)) reply
-reply_test at (Commit txn) reply = answer_test (first (refusals at (Commit txn))) (answer at (Commit txn)) (writes at (Commit txn)) reply
-reply_test at (Abort txn) reply = answer_test (first (refusals at (Abort txn))) (answer at (Abort txn)) (writes at (Abort txn)) reply
-reply_test at (Give to field kind amount) reply = answer_test (first (refusals at (Give to field kind amount)))
-    (answer at (Give to field kind amount)) (writes at (Give to field kind amount)) reply
-reply_test at (Restate to field kind) reply = answer_test (first (refusals at (Restate to field kind))) (answer at (Restate to field kind))
-    (writes at (Restate to field kind)) reply
-reply_test at (Spare to field kind want) reply = answer_test (first (refusals at (Spare to field kind want)))
-    (answer at (Spare to field kind want)) (writes at (Spare to field kind want)) reply
-reply_test at (Tighten field kind amount) reply = answer_test (first (refusals at (Tighten field kind amount)))
-    (answer at (Tighten field kind amount)) (writes at (Tighten field kind amount)) reply
-reply_test at (Accept told) reply = answer_test (first (refusals at (Accept told))) (answer at (Accept told))
-    (writes at (Accept told)) reply
-reply_test at (Read field) reply = answer_test (first (refusals at (Read field))) (answer at (Read field)) (writes at (Read field)) reply
-reply_test at (Share field) reply = answer_test (first (refusals at (Share field))) (answer at (Share field))
-    (writes at (Share field)) reply
-reply_test at Restart reply =
-    restart_test (epoch_of at.base at.entries) (count_since is_still_down at.entries) (count_since is_unsure at.entries) reply
+reply_test at command reply =
+    if asks_restart command
+    then restart_test (epoch_of at.base at.entries) (count_since is_still_down at.entries) (count_since is_unsure at.entries) reply
+    else answer_test (first (refusals at command)) (answer at command) (writes at command) reply

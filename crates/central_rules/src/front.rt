@@ -8,6 +8,7 @@ ghost use Rattle.field_bounds.specs.declared.entry.Command.TheVariants.{Spare};
 ghost use Rattle.field_bounds.specs.Central.{own, sizes, at_site, committed_value, open_sizes, cuts, IsSound};
 ghost use Rattle.field_bounds.specs.Parts.{field_at};
 ghost use Rattle.field_bounds.specs.Owed.{is_up, epoch_of, count_since, is_begun_reply, is_still_down, is_unsure};
+ghost use Rattle.central_rules.specs.Entries.{most_entries};
 ghost use Rattle.central_rules.specs.Verdict.{within_bound, true_share};
 ghost use Rattle.central_rules.specs.Fates.{passes};
 ghost use Rattle.central_rules.specs.Kept.{doubt_kept_next};
@@ -108,7 +109,7 @@ fn spare_of(
     want: u64,
     reply: Reply,
 ) -> Option<Effect>
-    requires few { length made.now ≤ 230584300921369395 }
+    requires few { length made.now ≤ most_entries }
     requires site_in { site.0 < schema.now.sites }
     ensures { result
         ≡ effect_of (fresh schema.now site.0) (reverse made.now) (Spare to field kind want) reply }
@@ -131,7 +132,7 @@ fn effect_of(
     command: Command,
     reply: Reply,
 ) -> Option<Effect>
-    requires few { length made.now ≤ 230584300921369395 }
+    requires few { length made.now ≤ most_entries }
     requires site_in { site.0 < schema.now.sites }
     ensures { result ≡ effect_of (fresh schema.now site.0) (reverse made.now) command reply }
 {
@@ -192,7 +193,7 @@ pub fn effects(
     front: &[Entry],
     site: SiteNo,
 ) -> Result<Vec<Effect>, AllocError>
-    requires few { length front.now ≤ 230584300921369395 }
+    requires few { length front.now ≤ most_entries }
     requires site_in { site.0 < schema.now.sites }
     ensures few { IfOk result (λ made. length made.items ≤ length front.now) }
     ensures value { IfOk result (λ made. reverse made.items
@@ -221,7 +222,7 @@ pub fn total(
     field: FieldNo,
     kind: Kind,
 ) -> Result<u128, AllocError>
-    requires few { length front.now ≤ 230584300921369395 }
+    requires few { length front.now ≤ most_entries }
     requires sound { IsSound schema.now (reverse front.now) }
     ensures small { IfOk result (λ n. n ≤ 136112946768375385267290680900966154240) }
     ensures value { IfOk result (λ n. n
@@ -244,7 +245,7 @@ fn cuts(
     field: FieldNo,
     kind: Kind,
 ) -> Result<u128, AllocError>
-    requires few { length front.now ≤ 230584300921369395 }
+    requires few { length front.now ≤ most_entries }
     ensures { IfOk result (λ n. n ≡ cuts schema.now (reverse front.now) field.0 kind) }
 {
     let mut sum: u128 = 0;
@@ -301,7 +302,7 @@ pub fn within_bound(
     by: u64,
     kind: Kind,
 ) -> Result<bool, AllocError>
-    requires few { length front.now ≤ 230584300921369395 }
+    requires few { length front.now ≤ most_entries }
     requires sound { IsSound schema.now (reverse front.now) }
     requires in_schema { field.0 < length schema.now.fields }
     ensures { IfOk result (λ holds. holds ≡ within_bound schema.now
@@ -329,7 +330,7 @@ pub fn true_share(
     asked: u64,
     told: u64,
 ) -> Result<bool, AllocError>
-    requires few { length front.now ≤ 230584300921369395 }
+    requires few { length front.now ≤ most_entries }
     requires site_in { site.0 < schema.now.sites }
     ensures { IfOk result (λ holds. holds
         ≡ true_share schema.now (reverse front.now) site.0 field kind asked told) }
@@ -386,7 +387,7 @@ pub fn between(
     lo: i64,
     hi: i64,
 ) -> Result<bool, AllocError>
-    requires few { length front.now ≤ 230584300921369395 }
+    requires few { length front.now ≤ most_entries }
     requires sound { IsSound schema.now (reverse front.now) }
     requires in_schema { field.0 < length schema.now.fields }
     ensures { IfOk result (λ holds. holds
@@ -401,7 +402,7 @@ pub fn between(
 
 /// Where a site on a fresh base stands after the front.
 pub fn site_counts_at(schema: &Schema, front: &[Entry], site: SiteNo) -> SiteCounts
-    requires few { length front.now ≤ 230584300921369395 }
+    requires few { length front.now ≤ most_entries }
     ensures up { result.up ≡ is_up (fresh schema.now site.0) (own site.0 (reverse front.now)) }
     ensures epoch { result.epoch ≡ epoch_of (fresh schema.now site.0)
         (own site.0 (reverse front.now)) }
@@ -409,8 +410,8 @@ pub fn site_counts_at(schema: &Schema, front: &[Entry], site: SiteNo) -> SiteCou
     ensures still_down { result.still_down ≡ count_since is_still_down
         (own site.0 (reverse front.now)) }
     ensures unsure { result.unsure ≡ count_since is_unsure (own site.0 (reverse front.now)) }
-    ensures few { (result.begun ≤ 230584300921369395) × (result.still_down ≤ 230584300921369395)
-        × (result.unsure ≤ 230584300921369395) }
+    ensures few { (result.begun ≤ most_entries) × (result.still_down ≤ most_entries)
+        × (result.unsure ≤ most_entries) }
 {
     let _sites = schema.sites();
     let mut now = SiteCounts::new();

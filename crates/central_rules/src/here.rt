@@ -1,5 +1,6 @@
 //! One site over a front of a trace, with its sums made afresh.
 
+ghost use Rattle.central_rules.specs.Entries.{most_entries};
 ghost use Rattle.std.specs.Prelude.{◌≡◌, ◌<◌, ◌≤◌, length, reverse, IfOk};
 
 use crate::afresh::{
@@ -50,7 +51,7 @@ impl<'a> Here<'a> {
         front: &'a [Entry],
         site: SiteNo,
     ) -> Result<Here<'a>, AllocError>
-        requires few { length front.now ≤ 230584300921369395 }
+        requires few { length front.now ≤ most_entries }
         requires site_in { site.0 < schema.now.sites }
         ensures { IfOk result (λ here. here
             ≡ record { schema = schema.now; site = site; front = reverse front.now }) }

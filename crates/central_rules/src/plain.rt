@@ -1,5 +1,6 @@
 //! The judge that sums afresh over each front.
 ghost use Rattle.std.specs.Prelude.{◌≡◌, ◌≤◌, ◌<◌, ◌↔◌, ℕ, IfOk, reverse, length, Option, Some, None};
+ghost use Rattle.central_rules.specs.Entries.{most_entries};
 ghost use Rattle.central_rules.specs.declared.verdict.Rule.{Rule};
 ghost use Rattle.central_rules.specs.Verdict.{IsFirstBad, verdict_of, broken_rule, statement_test, is_issued, is_told_by, same_statement, verdict_back, grant_test, shortage_test, interval_test, test_of};
 ghost use Rattle.central_rules.specs.declared.verdict.Verdict.TheVariants.{Legal, Illegal};
@@ -56,7 +57,7 @@ fn judge_fronts(alloc: Global, schema: &Schema, entries: &[Entry]) -> Result<Ver
 /// How many entries there are: fewer than would fill the memory.
 fn length_of(entries: &[Entry]) -> usize
     ensures value { result ≡ length entries.now }
-    ensures few { length entries.now ≤ 230584300921369395 }
+    ensures few { length entries.now ≤ most_entries }
 {
     entries.len()
 }
@@ -99,7 +100,7 @@ fn grant_holds(
     front: &[Entry],
     entry: Entry,
 ) -> Result<bool, AllocError>
-    requires few { length front.now ≤ 230584300921369395 }
+    requires few { length front.now ≤ most_entries }
     requires sound { IsSound schema.now (reverse front.now) }
     ensures { IfOk result (λ holds. holds
         ≡ grant_test schema.now (reverse front.now) entry.command entry.reply) }
@@ -141,7 +142,7 @@ fn interval_holds(
     front: &[Entry],
     entry: Entry,
 ) -> Result<bool, AllocError>
-    requires few { length front.now ≤ 230584300921369395 }
+    requires few { length front.now ≤ most_entries }
     requires sound { IsSound schema.now (reverse front.now) }
     ensures { IfOk result (λ holds. holds
         ≡ interval_test schema.now (reverse front.now) entry.command entry.reply) }
@@ -163,7 +164,7 @@ fn shortage_holds(
     front: &[Entry],
     entry: Entry,
 ) -> Result<bool, AllocError>
-    requires few { length front.now ≤ 230584300921369395 }
+    requires few { length front.now ≤ most_entries }
     requires site_in { entry.site.0 < schema.now.sites }
     ensures { IfOk result (λ holds. holds
         ≡ shortage_test schema.now (reverse front.now) entry.site.0 entry.command entry.reply) }
@@ -213,7 +214,7 @@ fn reply_holds(
     front: &[Entry],
     entry: Entry,
 ) -> Result<bool, AllocError>
-    requires few { length front.now ≤ 230584300921369395 }
+    requires few { length front.now ≤ most_entries }
     requires site_in { entry.site.0 < schema.now.sites }
     ensures { IfOk result (λ holds. holds ≡ test_of schema.now (reverse front.now) entry Owed) }
 {
@@ -228,7 +229,7 @@ fn broken_rule(
     front: &[Entry],
     entry: Entry,
 ) -> Result<Option<Rule>, AllocError>
-    requires few { length front.now ≤ 230584300921369395 }
+    requires few { length front.now ≤ most_entries }
     requires legal { verdict_back schema.now (reverse front.now) ≡ Legal }
     ensures { IfOk result (λ rule. rule ≡ broken_rule schema.now (reverse front.now) entry) }
 {

@@ -12,9 +12,9 @@ ghost use Rattle.line_words.specs.Words.{line};
 ghost use Rattle.entry_text.specs.Ranges.{SiteFits, IdFits, CommandFits};
 ghost use Rattle.entry_text.specs.Spelling.{id_text, kind_text, field_text, command_words, command_text};
 
-use crate::word::{Fields, is_text, small_number};
+use crate::word::{Fields, small_number};
 use field_bounds::{Command, FieldNo, Kind, SiteNo, Statement, TxnId};
-use line_words::{behind, first_number, first_signed, number_and};
+use line_words::{behind, first_number, first_signed, is_text, number_and};
 
 // Up to so many fields, a look at each name costs less than a look-up in a map.
 const FEW_FIELDS: u16 = 4;

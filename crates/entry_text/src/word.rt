@@ -1,6 +1,6 @@
 //! The readers of one word.
 
-ghost use Rattle.std.specs.Prelude.{◌≡◌, ◌<◌, ◌^◌, [], ◌∷◌, MatchBool, IfSome, Some, length, bytes_eq};
+ghost use Rattle.std.specs.Prelude.{◌≡◌, ◌<◌, ◌^◌, [], ◌∷◌, MatchBool, IfSome, Some, length};
 ghost use Rattle.field_bounds.specs.declared.kind.Kind.{Kind as KindType};
 ghost use Rattle.field_bounds.specs.declared.id.FieldNo.{FieldNo as FieldNumber};
 ghost use Rattle.field_bounds.specs.declared.id.TxnId.{TxnId as Txn};
@@ -13,16 +13,8 @@ ghost use Rattle.entry_text.specs.Ranges.{IdFits, FieldFits};
 ghost use Rattle.entry_text.specs.Reading.{site_of, id_of, kind_of, field_of};
 
 use field_bounds::{FieldNo, Kind, Schema, SiteNo, TxnId};
-use line_words::{Words, read_dotted, read_number};
+use line_words::{Words, is_text, read_dotted, read_number};
 use std::marker::Model;
-
-/// The word is this text.
-#[inline(always)]
-pub(crate) fn is_text(word: &[u8], text: &str) -> bool
-    ensures { result ≡ bytes_eq word.now text.now }
-{
-    word == text.as_bytes()
-}
 
 /// Takes the next word where it is this text, which has no space.
 #[inline(always)]

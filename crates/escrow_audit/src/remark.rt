@@ -1,6 +1,6 @@
 //! Remarks: the lines of a run's output that are no entries.
 
-ghost use Rattle.std.specs.Prelude.{◌≡◌, bytes_eq, IfSome, Some};
+ghost use Rattle.std.specs.Prelude.{◌≡◌, IfSome, Some};
 ghost use Rattle.std.specs.Bool.{Decides};
 ghost use Rattle.line_words.specs.Reading.{Gives, word_at};
 ghost use Rattle.escrow_audit.specs.Remarks.{reason_of, opening_of, ending_of, no_statement_at, level_at, outcome_after, outcome_at, reach_at, remark_after, remark_at, is_in_schema, remark_text, RemarkFits, IsRemark};
@@ -8,7 +8,7 @@ ghost use Rattle.escrow_audit.specs.declared.remark.Remark.{Remark as RemarkType
 
 use entry_text::{Fields, MAX_LINE, expect, field_at, kind_at, number_at, signed_at, site_at};
 use field_bounds::{FieldNo, Kind, Schema, SiteNo};
-use line_words::Words;
+use line_words::{Words, is_text};
 
 /// Why a target isn't reached.
 #[derive(Clone, Copy, Debug)]
@@ -64,12 +64,6 @@ pub(crate) enum RemarkWord {
 pub(crate) enum Ending {
     Steps,
     No,
-}
-
-fn is_text(word: &[u8], text: &str) -> bool
-    ensures { result ≡ bytes_eq word.now text.now }
-{
-    word == text.as_bytes()
 }
 
 #[tactic(auto, unfolding(crate::specs::Remarks::reason_of))]

@@ -1,11 +1,11 @@
 //! The entries of a trace as text.
 
-ghost use Rattle.std.specs.Prelude.{◌≡◌, ◌≢◌, ◌++◌, ◌∷◌, All, MatchOption, IfOk, IfErr};
+ghost use Rattle.std.specs.Prelude.{◌≡◌, IfOk, IfErr};
 ghost use Rattle.escrow_c.specs.Texts.{lines_text, TellsBadLine};
 
 use entry_text::read_entry;
 use field_bounds::{Entry, Schema};
-use memchr::memchr;
+use line_words::split_line;
 use std::alloc::Global;
 
 /// Why a text isn't read as entries.
@@ -15,15 +15,6 @@ pub(crate) enum EntriesFault {
     NoMemory,
     /// This line, counted from 1, is the first that is no entry.
     BadEntry(u64),
-}
-
-// The bytes before the first LF, and those after it, or None where there is no LF.
-fn split_line(bytes: &[u8]) -> Option<(&[u8], &[u8])>
-    ensures parts { MatchOption result (All (λ b. b ≢ 10) bytes.now)
-        (λ parts. bytes.now ≡ parts.0.now ++ 10 ∷ parts.1.now) }
-{
-    let at = memchr(b'\n', bytes)?;
-    Some((&bytes[..at], &bytes[at + 1..]))
 }
 
 /// The entries of which a text is the lines.

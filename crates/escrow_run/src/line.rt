@@ -1,6 +1,6 @@
 //! What a line behind the header asks.
 
-ghost use Rattle.std.specs.Prelude.{◌≡◌, ◌≢◌, ◌<◌, ◌≤◌, ◌++◌, ◌∷◌, ◌↔◌, ℕ, List, All, IfNone, IfSome, IsTrue, MatchBool, MatchOption, Some, bytes_eq, codes, slice_index};
+ghost use Rattle.std.specs.Prelude.{◌≡◌, ◌≢◌, ◌<◌, ◌≤◌, ◌++◌, ◌∷◌, ◌↔◌, ℕ, List, All, IfNone, IfSome, IsTrue, MatchBool, MatchOption, Some, codes, slice_index};
 ghost use Rattle.field_bounds.specs.Schema.{SchemaValue};
 ghost use Rattle.field_bounds.specs.Limits.{IsSchema};
 ghost use Rattle.field_bounds.specs.declared.id.SiteNo.{SiteNo as Site};
@@ -20,7 +20,7 @@ use entry_text::{
     site_at,
 };
 use field_bounds::{Command, Schema, SiteNo};
-use line_words::Words;
+use line_words::{Words, is_text};
 use world_steps::{Luck, World, WorldStep, step_fits};
 
 /// What a line asks.
@@ -96,13 +96,6 @@ fn command_step(schema: &Schema, line: &[u8]) -> Option<WorldStep>
 }
 
 // ---- a line that begins with a name
-
-// The word is this text.
-fn is_text(word: &[u8], text: &str) -> bool
-    ensures { result ≡ bytes_eq word.now text.now }
-{
-    word == text.as_bytes()
-}
 
 // Takes how an append goes, by the words that are left.
 fn take_luck(words: &mut Words<'_>) -> Option<Luck>

@@ -10,13 +10,14 @@ use Rattle.field_bounds.specs.declared.entry.Escrow.{Escrow as EscrowOf}
 use Rattle.field_bounds.specs.declared.entry.Command.{Command}
 use Rattle.field_bounds.specs.declared.entry.Command.TheVariants.{Begin, Escrow, Commit, Abort, Give, Restate, Spare, Tighten, Accept, Read, Share, Restart}
 use Rattle.field_bounds.specs.declared.entry.Reply.{Reply}
-use Rattle.field_bounds.specs.declared.entry.Reply.TheVariants.{Begun, Granted, Committed, Aborted, Given, Stated, Spared, Tightened, Accepted, Between, Shares, Restarted, Unsure, StillDown, Refused}
+use Rattle.field_bounds.specs.declared.entry.Reply.TheVariants.{Begun, Granted, Committed, Aborted, Given, Spared, Tightened, Accepted, Restarted, Unsure}
 use Rattle.field_bounds.specs.declared.entry.Last.{Last}
 use Rattle.field_bounds.specs.declared.entry.Last.TheVariants.{Nothing, Kept, Lost}
 use Rattle.field_bounds.specs.declared.entry.Entry.{Entry}
 use Rattle.field_bounds.specs.Kind.{other, same_kind, kind_of}
 use Rattle.field_bounds.specs.Schema.{SchemaValue}
 use Rattle.field_bounds.specs.Parts.{part_of}
+use Rattle.field_bounds.specs.Shape.{answered, restarted, in_doubt, stays_down, refused, shape}
 
 -- What a site's history stands on: whether it is up, its epoch, its rights by field and kind, the cut, which is what it has
 -- given up for good, by field and kind, and the totals that it has given to and accepted from each site, by site, field and
@@ -199,21 +200,7 @@ effect_of base es Restart reply = None
 
 -- Whether what a reply answers counts: where it is in doubt, as it was kept, and always otherwise (this project).
 abbrev pub counts : Bool → Reply → Bool
-counts kept (Begun txn) = true
-counts kept Granted = true
-counts kept Committed = true
-counts kept Aborted = true
-counts kept (Given total) = true
-counts kept (Stated total) = true
-counts kept (Spared amount total) = true
-counts kept (Tightened total) = true
-counts kept (Accepted gain) = true
-counts kept (Between lo hi) = true
-counts kept (Shares lower raise) = true
-counts kept (Restarted epoch found) = true
-counts kept Unsure = kept
-counts kept StillDown = true
-counts kept (Refused refusal) = true
+counts kept r = elim (shape r) [ answered ↦ true | restarted _ _ ↦ true | in_doubt ↦ kept | stays_down ↦ true | refused _ ↦ true ]
 
 -- The effects with one more in front, if there is one and it counts.
 abbrev pub with_effect : Bool → Option Effect → List Effect → List Effect
@@ -232,21 +219,8 @@ says_doubt_kept Lost = false
 
 -- Whether what stands in doubt before this reply was kept, if what stands in doubt after it was.
 abbrev pub doubt_kept_before : Bool → Reply → Bool
-doubt_kept_before kept (Begun txn) = kept
-doubt_kept_before kept Granted = kept
-doubt_kept_before kept Committed = kept
-doubt_kept_before kept Aborted = kept
-doubt_kept_before kept (Given total) = kept
-doubt_kept_before kept (Stated total) = kept
-doubt_kept_before kept (Spared amount total) = kept
-doubt_kept_before kept (Tightened total) = kept
-doubt_kept_before kept (Accepted gain) = kept
-doubt_kept_before kept (Between lo hi) = kept
-doubt_kept_before kept (Shares lower raise) = kept
-doubt_kept_before kept (Restarted epoch found) = says_doubt_kept found
-doubt_kept_before kept Unsure = kept
-doubt_kept_before kept StillDown = kept
-doubt_kept_before kept (Refused refusal) = kept
+doubt_kept_before kept r =
+    elim (shape r) [ answered ↦ kept | restarted _ found ↦ says_doubt_kept found | in_doubt ↦ kept | stays_down ↦ kept | refused _ ↦ kept ]
 
 -- What took effect at a site; kept says whether the next restart, if any, finds that what is in doubt is kept.
 abbrev pub effects : Base → Bool → List Entry → List Effect

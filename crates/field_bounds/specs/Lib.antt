@@ -4,6 +4,7 @@ pub mod Equality
 pub mod Limits
 pub mod Header
 pub mod Parts
+pub mod Shape
 pub mod Kept
 pub mod Effects
 pub mod Lawful

@@ -3,12 +3,13 @@ use Rattle.std.specs.Prelude.{◌≡◌, ℕ, ◌≤◌, ◌≤ℤ◌, ℤ, pos,
 use Rattle.std.specs.List.{list_all, list_any, AllByRecursion}
 use Rattle.field_bounds.specs.declared.fault.SchemaFault.{SchemaFault}
 use Rattle.field_bounds.specs.declared.fault.SchemaFault.TheVariants.{SiteCount, FieldCount, Name, NameUsed, Bounds}
+use Rattle.field_bounds.specs.declared.limits.TheConstants.{MAX_HEADER}
 use Rattle.field_bounds.specs.Schema.{FieldValue, SchemaValue}
 
 -- The most bytes of a header line, sites, fields and bytes of a name, and the greatest floor, ceiling
 -- or value without its sign.
 abbrev pub max_header : ℕ
-max_header = 65536
+max_header = MAX_HEADER
 
 abbrev pub max_sites : ℕ
 max_sites = 64

@@ -16,29 +16,17 @@ use Rattle.field_bounds.specs.declared.entry.Refusal.TheVariants.{Down, NoSite, 
 use Rattle.field_bounds.specs.declared.entry.Entry.{Entry}
 use Rattle.field_bounds.specs.declared.entry.Statement.{Statement}
 use Rattle.field_bounds.specs.declared.effect.Effect.{Effect}
+use Rattle.field_bounds.specs.declared.limits.TheConstants.{MAX_CHANGE, MAX_TOTAL, MAX_OPEN, MAX_ESCROWS, MAX_NUMBER, MAX_EPOCH}
 use Rattle.field_bounds.specs.Kind.{kind_of}
 use Rattle.field_bounds.specs.Schema.{SchemaValue}
 use Rattle.field_bounds.specs.Parts.{field_at, width_of}
+use Rattle.field_bounds.specs.Shape.{answered, restarted, in_doubt, stays_down, refused, shape, asks_restart}
 use Rattle.field_bounds.specs.Effects.{Base, is_begun, is_open, open_txns, escrows_of, total_given, cut, total_accepted, share, own_rights, spare_amount, effects}
 
 -- ---- up or down, epochs and counts
 
 abbrev pub up_after : Bool → Reply → Bool
-up_after up (Begun txn) = up
-up_after up Granted = up
-up_after up Committed = up
-up_after up Aborted = up
-up_after up (Given total) = up
-up_after up (Stated total) = up
-up_after up (Spared amount total) = up
-up_after up (Tightened total) = up
-up_after up (Accepted gain) = up
-up_after up (Between lo hi) = up
-up_after up (Shares lower raise) = up
-up_after up (Restarted epoch found) = true
-up_after up Unsure = false
-up_after up StillDown = false
-up_after up (Refused refusal) = up
+up_after up r = elim (shape r) [ answered ↦ up | restarted _ _ ↦ true | in_doubt ↦ false | stays_down ↦ false | refused _ ↦ up ]
 
 -- Whether a site is up: its base is, or it restarted since, and nothing took it down after that (this project).
 abbrev pub is_up : Base → List Entry → Bool
@@ -46,21 +34,8 @@ is_up base [] = base.up
 is_up base (e ∷ o) = up_after (is_up base o) e.reply
 
 abbrev pub epoch_after : ℕ → Reply → ℕ
-epoch_after epoch (Begun txn) = epoch
-epoch_after epoch Granted = epoch
-epoch_after epoch Committed = epoch
-epoch_after epoch Aborted = epoch
-epoch_after epoch (Given total) = epoch
-epoch_after epoch (Stated total) = epoch
-epoch_after epoch (Spared amount total) = epoch
-epoch_after epoch (Tightened total) = epoch
-epoch_after epoch (Accepted gain) = epoch
-epoch_after epoch (Between lo hi) = epoch
-epoch_after epoch (Shares lower raise) = epoch
-epoch_after epoch (Restarted new found) = new
-epoch_after epoch Unsure = epoch
-epoch_after epoch StillDown = epoch
-epoch_after epoch (Refused refusal) = epoch
+epoch_after epoch r =
+    elim (shape r) [ answered ↦ epoch | restarted new _ ↦ new | in_doubt ↦ epoch | stays_down ↦ epoch | refused _ ↦ epoch ]
 
 -- The epoch in which a site stands: that of the last restart, or the base's (this project).
 abbrev pub epoch_of : Base → List Entry → ℕ
@@ -68,21 +43,14 @@ epoch_of base [] = base.epoch
 epoch_of base (e ∷ o) = epoch_after (epoch_of base o) e.reply
 
 abbrev pub count_after : (Reply → Bool) → ℕ → Reply → ℕ
-count_after p n (Begun txn) = (if p (Begun txn) then 1 else 0) + n
-count_after p n Granted = (if p Granted then 1 else 0) + n
-count_after p n Committed = (if p Committed then 1 else 0) + n
-count_after p n Aborted = (if p Aborted then 1 else 0) + n
-count_after p n (Given total) = (if p (Given total) then 1 else 0) + n
-count_after p n (Stated total) = (if p (Stated total) then 1 else 0) + n
-count_after p n (Spared amount total) = (if p (Spared amount total) then 1 else 0) + n
-count_after p n (Tightened total) = (if p (Tightened total) then 1 else 0) + n
-count_after p n (Accepted gain) = (if p (Accepted gain) then 1 else 0) + n
-count_after p n (Between lo hi) = (if p (Between lo hi) then 1 else 0) + n
-count_after p n (Shares lower raise) = (if p (Shares lower raise) then 1 else 0) + n
-count_after p n (Restarted epoch found) = 0
-count_after p n Unsure = (if p Unsure then 1 else 0) + n
-count_after p n StillDown = (if p StillDown then 1 else 0) + n
-count_after p n (Refused refusal) = (if p (Refused refusal) then 1 else 0) + n
+count_after p n r =
+    elim (shape r) [
+      | answered ↦ (if p r then 1 else 0) + n
+      | restarted _ _ ↦ 0
+      | in_doubt ↦ (if p r then 1 else 0) + n
+      | stays_down ↦ (if p r then 1 else 0) + n
+      | refused _ ↦ (if p r then 1 else 0) + n
+    ]
 
 -- The replies since the last restart that pass.
 abbrev pub count_since : (Reply → Bool) → List Entry → ℕ
@@ -107,38 +75,10 @@ is_begun_reply StillDown = false
 is_begun_reply (Refused refusal) = false
 
 abbrev pub is_unsure : Reply → Bool
-is_unsure (Begun txn) = false
-is_unsure Granted = false
-is_unsure Committed = false
-is_unsure Aborted = false
-is_unsure (Given total) = false
-is_unsure (Stated total) = false
-is_unsure (Spared amount total) = false
-is_unsure (Tightened total) = false
-is_unsure (Accepted gain) = false
-is_unsure (Between lo hi) = false
-is_unsure (Shares lower raise) = false
-is_unsure (Restarted epoch found) = false
-is_unsure Unsure = true
-is_unsure StillDown = false
-is_unsure (Refused refusal) = false
+is_unsure r = elim (shape r) [ answered ↦ false | restarted _ _ ↦ false | in_doubt ↦ true | stays_down ↦ false | refused _ ↦ false ]
 
 abbrev pub is_still_down : Reply → Bool
-is_still_down (Begun txn) = false
-is_still_down Granted = false
-is_still_down Committed = false
-is_still_down Aborted = false
-is_still_down (Given total) = false
-is_still_down (Stated total) = false
-is_still_down (Spared amount total) = false
-is_still_down (Tightened total) = false
-is_still_down (Accepted gain) = false
-is_still_down (Between lo hi) = false
-is_still_down (Shares lower raise) = false
-is_still_down (Restarted epoch found) = false
-is_still_down Unsure = false
-is_still_down StillDown = true
-is_still_down (Refused refusal) = false
+is_still_down r = elim (shape r) [ answered ↦ false | restarted _ _ ↦ false | in_doubt ↦ false | stays_down ↦ true | refused _ ↦ false ]
 
 -- How many transactions are open, and how many escrows a transaction has.
 abbrev pub count_open : List Effect → ℕ
@@ -177,22 +117,22 @@ first (test ∷ rest) = if test.0 then Some test.1 else first rest
 -- The greatest amount or change without its sign, the greatest total of gifts from one site to another on a field and of
 -- a kind, the most open transactions, the most escrows of one, the last transaction number of an epoch, and the last epoch.
 abbrev pub max_change : ℕ
-max_change = 2_000_000_000_000_000
+max_change = MAX_CHANGE
 
 abbrev pub max_total : ℕ
-max_total = 1_000_000_000_000_000_000
+max_total = MAX_TOTAL
 
 abbrev pub max_open : ℕ
-max_open = 64
+max_open = MAX_OPEN
 
 abbrev pub max_escrows : ℕ
-max_escrows = 16
+max_escrows = MAX_ESCROWS
 
 abbrev pub max_number : ℕ
-max_number = 1_000_000_000
+max_number = MAX_NUMBER
 
 abbrev pub max_epoch : ℕ
-max_epoch = 1_000_000_000
+max_epoch = MAX_EPOCH
 
 -- The share and the own rights of a kind on a field, where the site stands.
 abbrev pub free : Place → FieldNo → Kind → ℕ
@@ -385,36 +325,18 @@ MayRestart at epoch found =
 
 -- What a restart may answer: it may fail at any time, and finds no epoch left only where that may be.
 abbrev pub RestartFits : Place → Reply → Type 0
-RestartFits at (Begun txn) = ⊥
-RestartFits at Granted = ⊥
-RestartFits at Committed = ⊥
-RestartFits at Aborted = ⊥
-RestartFits at (Given total) = ⊥
-RestartFits at (Stated total) = ⊥
-RestartFits at (Spared amount total) = ⊥
-RestartFits at (Tightened total) = ⊥
-RestartFits at (Accepted gain) = ⊥
-RestartFits at (Between lo hi) = ⊥
-RestartFits at (Shares lower raise) = ⊥
-RestartFits at (Restarted epoch found) = MayRestart at epoch found
-RestartFits at Unsure = ⊥
-RestartFits at StillDown = Unit {0}
-RestartFits at (Refused refusal) = (refusal ≡ NumbersFull) × (max_epoch ≤ greatest_epoch at)
+RestartFits at r =
+    elim (shape r) [
+      | answered ↦ ⊥
+      | restarted epoch found ↦ MayRestart at epoch found
+      | in_doubt ↦ ⊥
+      | stays_down ↦ Unit {0}
+      | refused refusal ↦ (refusal ≡ NumbersFull) × (max_epoch ≤ greatest_epoch at)
+    ]
 
 -- The site may give this reply to this command.
 abbrev pub Fits : Place → Command → Reply → Type 0
-Fits at Begin reply = AnswerFits at Begin reply
-Fits at (Escrow txn field change) reply = AnswerFits at (Escrow txn field change) reply
-Fits at (Commit txn) reply = AnswerFits at (Commit txn) reply
-Fits at (Abort txn) reply = AnswerFits at (Abort txn) reply
-Fits at (Give to field kind amount) reply = AnswerFits at (Give to field kind amount) reply
-Fits at (Restate to field kind) reply = AnswerFits at (Restate to field kind) reply
-Fits at (Spare to field kind want) reply = AnswerFits at (Spare to field kind want) reply
-Fits at (Tighten field kind amount) reply = AnswerFits at (Tighten field kind amount) reply
-Fits at (Accept told) reply = AnswerFits at (Accept told) reply
-Fits at (Read field) reply = AnswerFits at (Read field) reply
-Fits at (Share field) reply = AnswerFits at (Share field) reply
-Fits at Restart reply = RestartFits at reply
+Fits at command reply = elim (asks_restart command) [ true ↦ RestartFits at reply | false ↦ AnswerFits at command reply ]
 
 -- Each entry of a history fits those before it.
 abbrev pub IsRun : SchemaValue → ℕ → Base → List Entry → Type 0

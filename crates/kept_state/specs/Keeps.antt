@@ -6,9 +6,9 @@ use Rattle.field_bounds.specs.declared.id.SiteNo.{SiteNo}
 use Rattle.field_bounds.specs.declared.entry.Command.{Command}
 use Rattle.field_bounds.specs.declared.entry.Command.TheVariants as commands
 use Rattle.field_bounds.specs.declared.entry.Reply.{Reply}
-use Rattle.field_bounds.specs.declared.entry.Reply.TheVariants.{Begun, Granted, Committed, Aborted, Given, Stated, Spared, Tightened, Accepted, Between, Shares, Restarted, Unsure, StillDown, Refused}
 use Rattle.field_bounds.specs.declared.entry.Entry.{Entry}
 use Rattle.field_bounds.specs.Schema.{SchemaValue}
+use Rattle.field_bounds.specs.Shape.{answered, restarted, in_doubt, stays_down, refused, shape}
 use Rattle.field_bounds.specs.Effects.{Base, fresh, escrows_of, doubt_kept_before}
 use Rattle.field_bounds.specs.Owed.{Place, place, told_so_far, cut_so_far, spare_of, writes, max_change}
 use Rattle.kept_records.specs.declared.record.Record.{Record}
@@ -53,40 +53,26 @@ record_left at command = if writes at command then record_at at command ∷ [] e
 
 -- The records that an entry adds behind some records; stood says whether the device left a record that wasn't answered.
 abbrev pub adds : Place → Command → Reply → Bool → List Record → List Record
-adds at command (Refused refusal) stood rs = []
-adds at command (Restarted epoch found) stood rs = Restart epoch ∷ []
-adds at command StillDown stood rs = if stood then Restart (greatest rs + 1) ∷ [] else []
-adds at command Unsure stood rs = if stood then record_left at command else []
-adds at command (Begun txn) stood rs = record_left at command
-adds at command Granted stood rs = record_left at command
-adds at command Committed stood rs = record_left at command
-adds at command Aborted stood rs = record_left at command
-adds at command (Given total) stood rs = record_left at command
-adds at command (Stated total) stood rs = record_left at command
-adds at command (Spared amount total) stood rs = record_left at command
-adds at command (Tightened total) stood rs = record_left at command
-adds at command (Accepted gain) stood rs = record_left at command
-adds at command (Between lo hi) stood rs = record_left at command
-adds at command (Shares lower raise) stood rs = record_left at command
+adds at command r stood rs =
+    elim (shape r) [
+      | answered ↦ record_left at command
+      | restarted epoch _ ↦ Restart epoch ∷ []
+      | in_doubt ↦ if stood then record_left at command else []
+      | stays_down ↦ if stood then Restart (greatest rs + 1) ∷ [] else []
+      | refused _ ↦ []
+    ]
 
 -- What a reply tells of the records in front of it: kept says whether the next restart will say Kept, and an epoch is
 -- the greatest before it and one more.
 abbrev pub Tells : Bool → Bool → List Record → Reply → Type 0
-Tells kept stood rs Unsure = stood ≡ kept
-Tells kept stood rs (Restarted epoch found) = epoch ≡ greatest rs + 1
-Tells kept stood rs StillDown = Unit {0}
-Tells kept stood rs (Refused refusal) = Unit {0}
-Tells kept stood rs (Begun txn) = Unit {0}
-Tells kept stood rs Granted = Unit {0}
-Tells kept stood rs Committed = Unit {0}
-Tells kept stood rs Aborted = Unit {0}
-Tells kept stood rs (Given total) = Unit {0}
-Tells kept stood rs (Stated total) = Unit {0}
-Tells kept stood rs (Spared amount total) = Unit {0}
-Tells kept stood rs (Tightened total) = Unit {0}
-Tells kept stood rs (Accepted gain) = Unit {0}
-Tells kept stood rs (Between lo hi) = Unit {0}
-Tells kept stood rs (Shares lower raise) = Unit {0}
+Tells kept stood rs r =
+    elim (shape r) [
+      | answered ↦ Unit {0}
+      | restarted epoch _ ↦ epoch ≡ greatest rs + 1
+      | in_doubt ↦ stood ≡ kept
+      | stays_down ↦ Unit {0}
+      | refused _ ↦ Unit {0}
+    ]
 
 -- An entry of a site.
 abbrev pub entry_at : SiteNo → Command → Reply → Entry

@@ -1,6 +1,6 @@
 //! The serving of an input: what one read brings is a batch.
 
-ghost use Rattle.std.specs.Prelude.{◌≡◌, ◌≢◌, ◌<◌, ◌≤◌, ◌⊎◌, ◌+◌, ◌++◌, ◌∷◌, ℕ, List, Option, Bool, [], true, false, length, take, All, MatchOption, IfOk, IfErr, OnOk, OnErr, vec_len};
+ghost use Rattle.std.specs.Prelude.{◌≡◌, ◌<◌, ◌≤◌, ◌⊎◌, ◌+◌, ◌++◌, ℕ, List, Option, [], true, false, length, take, IfOk, IfErr, OnOk, OnErr, vec_len};
 ghost use Rattle.std.specs.Io.{ReadsAtMost};
 ghost use Rattle.std.specs.Io.KnownBytes.{IsAtEnd, ReadConsumes};
 ghost use Rattle.script_input.specs.Lines.{whole_lines_after, last_part_after};
@@ -12,19 +12,10 @@ ghost use Rattle.site_service.specs.Counting.{CountsReads, CountsWrites};
 
 use entry_text::MAX_LINE;
 use file_medium::LogFile;
-use memchr::memchr;
+use line_words::split_line;
 use script_input::{PIECE, Sink, Source};
 use site_service::{ServeFault, Service};
 use std::alloc::{AllocError, Global};
-
-// The bytes before the first LF, and those after it, or None where there is no LF.
-fn split_line(bytes: &[u8]) -> Option<(&[u8], &[u8])>
-    ensures parts { MatchOption result (All (λ b. b ≢ 10) bytes.now)
-        (λ parts. All (λ b. b ≢ 10) parts.0.now × (bytes.now ≡ parts.0.now ++ 10 ∷ parts.1.now)) }
-{
-    let at = memchr(b'\n', bytes)?;
-    Some((&bytes[..at], &bytes[at + 1..]))
-}
 
 // The first bytes.
 fn front(bytes: &[u8], count: usize) -> &[u8]

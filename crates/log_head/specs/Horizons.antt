@@ -2,6 +2,7 @@
 use Rattle.std.specs.Prelude.{◌≡◌, ◌≤◌, ◌^◌, ℕ, ◌==◌, ◌&&◌, ◌||◌, not, nat_lt, nat_le, if◌then◌else◌, Bool, true, false, List, [], ◌∷◌, length}
 use Rattle.std.specs.List.{list_any}
 use Rattle.field_bounds.specs.declared.id.TxnId.{TxnId}
+use Rattle.field_bounds.specs.Owed.{max_open, max_number, max_epoch}
 use Rattle.log_head.specs.declared.horizon.CommitAnswer.{CommitAnswer}
 use Rattle.log_head.specs.declared.horizon.CommitAnswer.TheVariants.{Yes, No, Forgotten}
 
@@ -24,9 +25,9 @@ rises_from above most (n ∷ ns) = nat_lt above n && nat_le n most && rises_from
 -- rising strictly.
 pub record IsHorizon (h : HorizonValue) : Type 0 where
   pub some_epoch : 1 ≤ h.epoch
-  pub few_epochs : h.epoch ≤ 1000000000
-  pub few_numbers : h.number ≤ 1000000000
-  pub few_listed : length h.open_then ≤ 64
+  pub few_epochs : h.epoch ≤ max_epoch
+  pub few_numbers : h.number ≤ max_number
+  pub few_listed : length h.open_then ≤ max_open
   pub rising : rises_from 0 h.number h.open_then ≡ true
 
 abbrev pub is_listed : ℕ → List ℕ → Bool

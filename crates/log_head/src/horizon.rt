@@ -3,14 +3,8 @@
 ghost use Rattle.std.specs.Prelude.{◌≡◌, IfSome, IfNone};
 ghost use Rattle.log_head.specs.Horizons.{HorizonValue, IsHorizon, horizon_of, rises_from, is_listed, is_passed, answer_of};
 
-use field_bounds::TxnId;
+use field_bounds::{MAX_EPOCH, MAX_NUMBER, MAX_OPEN, TxnId};
 use std::marker::Model;
-
-/// The greatest epoch, and the greatest number of a transaction.
-const GREATEST: u32 = 1_000_000_000;
-
-/// How many transactions can be open.
-const MAX_OPEN: usize = 64;
 
 /// What is told of a commit.
 #[derive(Clone, Copy, Debug, PartialEq, Eq)]
@@ -78,7 +72,7 @@ impl Horizon {
         ensures own { IfSome result IsHorizon }
         ensures none { IfNone result (IsHorizon (horizon_of epoch number open_then.items) → ⊥) }
     {
-        if epoch == 0 || epoch > GREATEST || number > GREATEST {
+        if epoch == 0 || epoch > MAX_EPOCH || number > MAX_NUMBER {
             return None;
         }
         if open_then.len() > MAX_OPEN || !rise(number, open_then.as_slice()) {

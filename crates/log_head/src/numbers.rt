@@ -1,22 +1,12 @@
 //! Lines of numbers, read.
 
 ghost use Rattle.std.specs.Prelude.{◌≡◌, ◌≢◌, ◌<◌, ◌^◌, ◌++◌, ◌∷◌, ℕ, List, All, IfOk, IfSome, IfNone, MatchOption};
-ghost use Rattle.site_folder.specs.Identity.{IsOneLine, line_then};
+ghost use Rattle.site_folder.specs.Identity.{IsOneLine};
 ghost use Rattle.log_head.specs.Heads.{IsU64, numbers_text};
 ghost use Rattle.log_head.specs.Reading.{TellsNumbers, TellsNoNumbers};
 
-use line_words::Words;
-use memchr::memchr;
+use line_words::{Words, split_line};
 use std::alloc::{AllocError, Global};
-
-/// The bytes before the first line feed, and those after it, or None where there is no line feed.
-fn split_line(bytes: &[u8]) -> Option<(&[u8], &[u8])>
-    ensures parts { MatchOption result (IsOneLine bytes.now)
-        (λ parts. IsOneLine parts.0.now × (bytes.now ≡ line_then parts.0.now parts.1.now)) }
-{
-    let at = memchr(b'\n', bytes)?;
-    Some((&bytes[..at], &bytes[at + 1..]))
-}
 
 /// What stands behind a word at the front of the bytes, or None where it doesn't stand there.
 pub(crate) fn behind<'a>(bytes: &'a [u8], word: &[u8]) -> Option<&'a [u8]>

@@ -6,13 +6,13 @@ use Rattle.field_bounds.specs.declared.id.FieldNo.{FieldNo}
 use Rattle.field_bounds.specs.declared.entry.Command.{Command}
 use Rattle.field_bounds.specs.declared.entry.Command.TheVariants.{Begin, Escrow, Commit, Abort, Give, Restate, Spare, Tighten, Accept, Read, Share, Restart}
 use Rattle.field_bounds.specs.declared.entry.Reply.{Reply}
-use Rattle.field_bounds.specs.declared.entry.Reply.TheVariants.{Begun, Granted, Committed, Aborted, Given, Stated, Spared, Tightened, Accepted, Between, Shares, Restarted, Unsure, StillDown, Refused}
 use Rattle.field_bounds.specs.declared.entry.Entry.{Entry}
 use Rattle.field_bounds.specs.declared.effect.Effect.{Effect}
 use Rattle.field_bounds.specs.Schema.{SchemaValue}
 use Rattle.field_bounds.specs.Effects.{Base, share, spare_amount, doubt_kept_before, effects, after, fresh, is_to, is_for_good}
 use Rattle.field_bounds.specs.Central.{own, at_site}
 use Rattle.field_bounds.specs.Lawful.{IsLawful}
+use Rattle.field_bounds.specs.Shape.{answered, restarted, in_doubt, stays_down, refused, shape}
 use Rattle.reaching_steps.specs.declared.standing.FieldHoldings.{FieldHoldings}
 use Rattle.reaching_steps.specs.FieldHoldings.{Stands}
 use Rattle.world_steps.specs.View.{WorldValue, trace_of, Answers}
@@ -86,21 +86,7 @@ AreReadIn schema f trace i rows =
 
 -- Whether a reply tells what became of what stood in doubt.
 abbrev pub ends_doubt : Reply → Bool
-ends_doubt (Begun txn) = false
-ends_doubt Granted = false
-ends_doubt Committed = false
-ends_doubt Aborted = false
-ends_doubt (Given total) = false
-ends_doubt (Stated total) = false
-ends_doubt (Spared amount total) = false
-ends_doubt (Tightened total) = false
-ends_doubt (Accepted gain) = false
-ends_doubt (Between lo hi) = false
-ends_doubt (Shares lower raise) = false
-ends_doubt (Restarted epoch found) = true
-ends_doubt Unsure = false
-ends_doubt StillDown = false
-ends_doubt (Refused refusal) = false
+ends_doubt r = elim (shape r) [ answered ↦ false | restarted _ _ ↦ true | in_doubt ↦ false | stays_down ↦ false | refused _ ↦ false ]
 
 -- For each site, what took effect there.
 unfoldable pub AllTold : SchemaValue → ℕ → List Entry → List FieldHoldings → Type 0

@@ -7,8 +7,7 @@ ghost use Rattle.site_folder.specs.Identity.{IsOneLine, line_then, version_line}
 ghost use Rattle.site_folder.specs.Reading.{AreLast, Tells, TellsLines, IsRefused};
 
 use crate::fault::IdentityFault;
-use line_words::read_number;
-use memchr::memchr;
+use line_words::{read_number, split_line};
 
 /// What the lines of a text tell, whether or not it is so.
 #[derive(Clone, Copy)]
@@ -18,15 +17,6 @@ pub(crate) struct Told<'a> {
     pub number: u64,
     pub world: &'a [u8],
     pub header: &'a [u8],
-}
-
-// The bytes before the first LF, and those after it, or None where there is no LF.
-fn split_line(bytes: &[u8]) -> Option<(&[u8], &[u8])>
-    ensures parts { MatchOption result (IsOneLine bytes.now)
-        (λ parts. IsOneLine parts.0.now × (bytes.now ≡ line_then parts.0.now parts.1.now)) }
-{
-    let at = memchr(b'\n', bytes)?;
-    Some((&bytes[..at], &bytes[at + 1..]))
 }
 
 // What stands behind a word at the front of the bytes, or None where it doesn't stand there.

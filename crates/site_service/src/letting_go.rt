@@ -12,7 +12,7 @@ ghost use Rattle.site_service.specs.Shortening.{bytes_told, records_told};
 ghost use Rattle.site_service.specs.Shorter.{ListsIf, ListsAllOpen};
 
 use crate::kept::KeptCommits;
-use field_bounds::{Entry, TxnId};
+use field_bounds::{Entry, MAX_OPEN, TxnId};
 use history::GhostHistory;
 use kept_records::MemoryMedium;
 use log_head::Gone;
@@ -24,9 +24,6 @@ const FIRST: TxnId = TxnId {
     epoch: 1,
     number: 0,
 };
-
-/// More than so many transactions are never open.
-const MAX_OPEN: usize = 64;
 
 /// Whether the commit of a transaction may be among what was let go, by what is told. Costs what
 /// `Horizon::has_passed` costs.

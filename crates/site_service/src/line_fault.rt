@@ -1,14 +1,13 @@
 //! Why a line is no command, as far as its words tell.
 
 ghost use Rattle.std.specs.Prelude.{◌≡◌};
-ghost use Rattle.std.specs.Str.{bytes_eq};
 ghost use Rattle.line_words.specs.Words.{words};
 ghost use Rattle.site_service.specs.LineFaults.{has_no_field, has_field_next, has_field_second, has_field_third, place_of, next_fault, second_fault, third_fault, fault_behind, fault_in};
 
 use crate::bad_line::BadLine;
 use entry_text::{Fields, field_at};
 use field_bounds::Schema;
-use line_words::Words;
+use line_words::{Words, is_text};
 
 /// Where a field stands behind the name of a command.
 #[derive(Clone, Copy, PartialEq, Eq)]
@@ -23,13 +22,6 @@ pub(crate) enum FieldPlace {
     Second,
     /// The field is the third word.
     Third,
-}
-
-// The word is this text.
-fn is_text(word: &[u8], text: &str) -> bool
-    ensures { result ≡ bytes_eq word.now text.now }
-{
-    word == text.as_bytes()
 }
 
 // The name of a command with no field in it.

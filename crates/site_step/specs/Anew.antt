@@ -2,9 +2,9 @@
 use Rattle.std.specs.Prelude.{◌≡◌, ℕ, List, []}
 use Rattle.field_bounds.specs.declared.kind.Kind.{Kind}
 use Rattle.field_bounds.specs.declared.entry.Reply.{Reply}
-use Rattle.field_bounds.specs.declared.entry.Reply.TheVariants.{Begun, Granted, Committed, Aborted, Given, Stated, Spared, Tightened, Accepted, Between, Shares, Restarted, Unsure, StillDown, Refused}
 use Rattle.field_bounds.specs.Effects.{share, held_rights, open_txns, total_given, total_accepted, cut}
 use Rattle.field_bounds.specs.Owed.{Place, epoch_of}
+use Rattle.field_bounds.specs.Shape.{answered, restarted, in_doubt, stays_down, refused, shape}
 use Rattle.kept_records.specs.declared.record.Record.{Record}
 use Rattle.kept_records.specs.Stands.{greatest, own_in, given_in, accepted_in, cut_in}
 
@@ -24,36 +24,22 @@ pub record NothingOpen (at : Place) : Type 0 where
 
 -- A restart that went well: the site is what these records stand for.
 abbrev pub StandsAnew : Reply → Place → List Record → Type 0
-StandsAnew (Restarted epoch found) at rs = IsStoodFor at rs
-StandsAnew Unsure at rs = Unit {0}
-StandsAnew StillDown at rs = Unit {0}
-StandsAnew (Refused refusal) at rs = Unit {0}
-StandsAnew (Begun txn) at rs = Unit {0}
-StandsAnew Granted at rs = Unit {0}
-StandsAnew Committed at rs = Unit {0}
-StandsAnew Aborted at rs = Unit {0}
-StandsAnew (Given total) at rs = Unit {0}
-StandsAnew (Stated total) at rs = Unit {0}
-StandsAnew (Spared amount total) at rs = Unit {0}
-StandsAnew (Tightened total) at rs = Unit {0}
-StandsAnew (Accepted gain) at rs = Unit {0}
-StandsAnew (Between lo hi) at rs = Unit {0}
-StandsAnew (Shares lower raise) at rs = Unit {0}
+StandsAnew r at rs =
+    elim (shape r) [
+      | answered ↦ Unit {0}
+      | restarted _ _ ↦ IsStoodFor at rs
+      | in_doubt ↦ Unit {0}
+      | stays_down ↦ Unit {0}
+      | refused _ ↦ Unit {0}
+    ]
 
 -- A restart that went well: nothing is open.
 abbrev pub ClosesAll : Reply → Place → Type 0
-ClosesAll (Restarted epoch found) at = NothingOpen at
-ClosesAll Unsure at = Unit {0}
-ClosesAll StillDown at = Unit {0}
-ClosesAll (Refused refusal) at = Unit {0}
-ClosesAll (Begun txn) at = Unit {0}
-ClosesAll Granted at = Unit {0}
-ClosesAll Committed at = Unit {0}
-ClosesAll Aborted at = Unit {0}
-ClosesAll (Given total) at = Unit {0}
-ClosesAll (Stated total) at = Unit {0}
-ClosesAll (Spared amount total) at = Unit {0}
-ClosesAll (Tightened total) at = Unit {0}
-ClosesAll (Accepted gain) at = Unit {0}
-ClosesAll (Between lo hi) at = Unit {0}
-ClosesAll (Shares lower raise) at = Unit {0}
+ClosesAll r at =
+    elim (shape r) [
+      | answered ↦ Unit {0}
+      | restarted _ _ ↦ NothingOpen at
+      | in_doubt ↦ Unit {0}
+      | stays_down ↦ Unit {0}
+      | refused _ ↦ Unit {0}
+    ]

@@ -3,14 +3,15 @@ use Rattle.std.specs.Prelude.{◌≡◌, ◌⊎◌, ℕ, ◌+◌, ◌-◌, ◌^�
 use Rattle.field_bounds.specs.declared.id.SiteNo.{SiteNo}
 use Rattle.field_bounds.specs.declared.id.TxnId.{TxnId}
 use Rattle.field_bounds.specs.declared.entry.Command.{Command}
-use Rattle.field_bounds.specs.declared.entry.Command.TheVariants.{Begin, Escrow as Ask, Commit, Abort, Give, Restate, Spare, Tighten, Accept, Read, Share, Restart}
+use Rattle.field_bounds.specs.declared.entry.Command.TheVariants.{Commit, Abort}
 use Rattle.field_bounds.specs.declared.entry.Reply.{Reply}
-use Rattle.field_bounds.specs.declared.entry.Reply.TheVariants.{Begun, Granted, Committed as SaysCommitted, Aborted as SaysAborted, Given, Stated, Spared, Tightened, Accepted, Between, Shares, Restarted, Unsure, StillDown, Refused}
+use Rattle.field_bounds.specs.declared.entry.Reply.TheVariants.{Committed as SaysCommitted, Aborted as SaysAborted, StillDown}
 use Rattle.field_bounds.specs.declared.entry.Last.{Last}
 use Rattle.field_bounds.specs.declared.entry.Entry.{Entry}
 use Rattle.field_bounds.specs.Schema.{SchemaValue}
 use Rattle.field_bounds.specs.Effects.{Base}
 use Rattle.field_bounds.specs.Owed.{Place, place, Fits, writes, max_epoch}
+use Rattle.field_bounds.specs.Shape.{answered, restarted, in_doubt, stays_down, refused, shape, asks_restart}
 use Rattle.site_rights.specs.declared.field_rights.Outcome.{Outcome}
 use Rattle.site_rights.specs.declared.field_rights.Outcome.TheVariants.{Committed, Aborted}
 use Rattle.kept_records.specs.declared.medium.Mishap.{Mishap}
@@ -107,88 +108,38 @@ pub record Holds (schema : SchemaValue) (s : ℕ) (bytes : List ℕ) (rs : List 
 
 -- The count of failures rises by one exactly at a reply in doubt and at a restart that failed.
 abbrev pub failed_after : Reply → ℕ → ℕ
-failed_after Unsure n = n + 1
-failed_after StillDown n = n + 1
-failed_after (Restarted epoch found) n = n
-failed_after (Refused refusal) n = n
-failed_after (Begun txn) n = n
-failed_after Granted n = n
-failed_after SaysCommitted n = n
-failed_after SaysAborted n = n
-failed_after (Given total) n = n
-failed_after (Stated total) n = n
-failed_after (Spared amount total) n = n
-failed_after (Tightened total) n = n
-failed_after (Accepted gain) n = n
-failed_after (Between lo hi) n = n
-failed_after (Shares lower raise) n = n
+failed_after r n = elim (shape r) [ answered ↦ n | restarted _ _ ↦ n | in_doubt ↦ n + 1 | stays_down ↦ n + 1 | refused _ ↦ n ]
 
 -- Where the record in doubt stands: behind the records that there were, settled by a restart, else as before.
 abbrev pub doubt_from : Reply → List Record → Option ℕ → Option ℕ
-doubt_from Unsure rs doubt = Some (length rs)
-doubt_from (Restarted epoch found) rs doubt = None
-doubt_from StillDown rs doubt = doubt
-doubt_from (Refused refusal) rs doubt = doubt
-doubt_from (Begun txn) rs doubt = doubt
-doubt_from Granted rs doubt = doubt
-doubt_from SaysCommitted rs doubt = doubt
-doubt_from SaysAborted rs doubt = doubt
-doubt_from (Given total) rs doubt = doubt
-doubt_from (Stated total) rs doubt = doubt
-doubt_from (Spared amount total) rs doubt = doubt
-doubt_from (Tightened total) rs doubt = doubt
-doubt_from (Accepted gain) rs doubt = doubt
-doubt_from (Between lo hi) rs doubt = doubt
-doubt_from (Shares lower raise) rs doubt = doubt
+doubt_from r rs doubt =
+    elim (shape r) [ answered ↦ doubt | restarted _ _ ↦ None | in_doubt ↦ Some (length rs) | stays_down ↦ doubt | refused _ ↦ doubt ]
 
 -- A restart tells the greatest epoch kept and one more, and exactly what became of the record in doubt, and leaves no
 -- torn end; where the greatest epoch is the last, it is refused.
 abbrev pub RestartsOver : Reply → List Record → Option ℕ → List ℕ → Type 0
-RestartsOver (Restarted epoch found) rs doubt rest =
-    (epoch ≡ greatest rs + 1) × (found ≡ found_of doubt rs) × (rest ≡ []) × (epoch ≤ max_epoch)
-RestartsOver Unsure rs doubt rest = Unit {0}
-RestartsOver StillDown rs doubt rest = Unit {0}
-RestartsOver (Refused refusal) rs doubt rest = Unit {0}
-RestartsOver (Begun txn) rs doubt rest = Unit {0}
-RestartsOver Granted rs doubt rest = Unit {0}
-RestartsOver SaysCommitted rs doubt rest = Unit {0}
-RestartsOver SaysAborted rs doubt rest = Unit {0}
-RestartsOver (Given total) rs doubt rest = Unit {0}
-RestartsOver (Stated total) rs doubt rest = Unit {0}
-RestartsOver (Spared amount total) rs doubt rest = Unit {0}
-RestartsOver (Tightened total) rs doubt rest = Unit {0}
-RestartsOver (Accepted gain) rs doubt rest = Unit {0}
-RestartsOver (Between lo hi) rs doubt rest = Unit {0}
-RestartsOver (Shares lower raise) rs doubt rest = Unit {0}
+RestartsOver r rs doubt rest =
+    elim (shape r) [
+      | answered ↦ Unit {0}
+      | restarted epoch found ↦ (epoch ≡ greatest rs + 1) × (found ≡ found_of doubt rs) × (rest ≡ []) × (epoch ≤ max_epoch)
+      | in_doubt ↦ Unit {0}
+      | stays_down ↦ Unit {0}
+      | refused _ ↦ Unit {0}
+    ]
 
 -- A restart is refused exactly where the greatest epoch kept is the last.
 abbrev pub RefusesOver : Command → Reply → List Record → Type 0
-RefusesOver Restart (Refused refusal) rs = max_epoch ≤ greatest rs
-RefusesOver Restart (Restarted epoch found) rs = Unit {0}
-RefusesOver Restart Unsure rs = Unit {0}
-RefusesOver Restart StillDown rs = Unit {0}
-RefusesOver Restart (Begun txn) rs = Unit {0}
-RefusesOver Restart Granted rs = Unit {0}
-RefusesOver Restart SaysCommitted rs = Unit {0}
-RefusesOver Restart SaysAborted rs = Unit {0}
-RefusesOver Restart (Given total) rs = Unit {0}
-RefusesOver Restart (Stated total) rs = Unit {0}
-RefusesOver Restart (Spared amount total) rs = Unit {0}
-RefusesOver Restart (Tightened total) rs = Unit {0}
-RefusesOver Restart (Accepted gain) rs = Unit {0}
-RefusesOver Restart (Between lo hi) rs = Unit {0}
-RefusesOver Restart (Shares lower raise) rs = Unit {0}
-RefusesOver Begin reply rs = Unit {0}
-RefusesOver (Ask txn field change) reply rs = Unit {0}
-RefusesOver (Commit txn) reply rs = Unit {0}
-RefusesOver (Abort txn) reply rs = Unit {0}
-RefusesOver (Give to field kind amount) reply rs = Unit {0}
-RefusesOver (Restate to field kind) reply rs = Unit {0}
-RefusesOver (Spare to field kind want) reply rs = Unit {0}
-RefusesOver (Tighten field kind amount) reply rs = Unit {0}
-RefusesOver (Accept told) reply rs = Unit {0}
-RefusesOver (Read field) reply rs = Unit {0}
-RefusesOver (Share field) reply rs = Unit {0}
+RefusesOver command reply rs =
+    elim (asks_restart command) [
+      | true ↦ elim (shape reply) [
+        | answered ↦ Unit {0}
+        | restarted _ _ ↦ Unit {0}
+        | in_doubt ↦ Unit {0}
+        | stays_down ↦ Unit {0}
+        | refused _ ↦ max_epoch ≤ greatest rs
+      ]
+      | false ↦ Unit {0}
+    ]
 
 -- Over a medium that holds these records: it holds them still, behind them the record that the entry adds, if any, and
 -- then bytes in which no line ends.
@@ -232,21 +183,14 @@ LeavesAnew at old new =
 -- What an entry does to the bytes of the medium: a refusal leaves them, an answer adds its record's lines, if any, and of an
 -- answer in doubt some front of these lines stands.
 abbrev pub Writes : Place → Command → Reply → List ℕ → List ℕ → Type 0
-Writes at command (Refused refusal) old new = new ≡ old
-Writes at command Unsure old new = LeavesUnsure at command old new
-Writes at command StillDown old new = LeavesFailed at old new
-Writes at command (Restarted epoch found) old new = LeavesAnew at old new
-Writes at command (Begun txn) old new = AddsLines at command old new
-Writes at command Granted old new = AddsLines at command old new
-Writes at command SaysCommitted old new = AddsLines at command old new
-Writes at command SaysAborted old new = AddsLines at command old new
-Writes at command (Given total) old new = AddsLines at command old new
-Writes at command (Stated total) old new = AddsLines at command old new
-Writes at command (Spared amount total) old new = AddsLines at command old new
-Writes at command (Tightened total) old new = AddsLines at command old new
-Writes at command (Accepted gain) old new = AddsLines at command old new
-Writes at command (Between lo hi) old new = AddsLines at command old new
-Writes at command (Shares lower raise) old new = AddsLines at command old new
+Writes at command r old new =
+    elim (shape r) [
+      | answered ↦ AddsLines at command old new
+      | restarted _ _ ↦ LeavesAnew at old new
+      | in_doubt ↦ LeavesUnsure at command old new
+      | stays_down ↦ LeavesFailed at old new
+      | refused _ ↦ new ≡ old
+    ]
 
 -- ---- under a mishap that is known
 
@@ -256,21 +200,14 @@ mishap_left None = None
 mishap_left (Some mishap) = Some mishaps.Never
 
 abbrev pub foretold_after : Reply → Option Mishap → Option Mishap
-foretold_after Unsure foretold = mishap_left foretold
-foretold_after StillDown foretold = mishap_left foretold
-foretold_after (Restarted epoch found) foretold = foretold
-foretold_after (Refused refusal) foretold = foretold
-foretold_after (Begun txn) foretold = foretold
-foretold_after Granted foretold = foretold
-foretold_after SaysCommitted foretold = foretold
-foretold_after SaysAborted foretold = foretold
-foretold_after (Given total) foretold = foretold
-foretold_after (Stated total) foretold = foretold
-foretold_after (Spared amount total) foretold = foretold
-foretold_after (Tightened total) foretold = foretold
-foretold_after (Accepted gain) foretold = foretold
-foretold_after (Between lo hi) foretold = foretold
-foretold_after (Shares lower raise) foretold = foretold
+foretold_after r foretold =
+    elim (shape r) [
+      | answered ↦ foretold
+      | restarted _ _ ↦ foretold
+      | in_doubt ↦ mishap_left foretold
+      | stays_down ↦ mishap_left foretold
+      | refused _ ↦ foretold
+    ]
 
 -- The mishap of an append that goes by luck.
 abbrev pub mishap_of : Luck → Mishap
@@ -286,30 +223,16 @@ unfoldable pub Finds : SiteValue → ℕ → Last → Type 0
 Finds v epoch found =
     (rs : List Record) (rest : List ℕ) → Holds v.schema v.site.0 v.bytes rs rest → (greatest rs ≡ epoch) × (found_of v.doubt rs ≡ found)
 
--- Whether a command reads the medium first, and cuts what stands behind the last line feed: a restart alone.
-abbrev pub reads_medium : Command → Bool
-reads_medium Restart = true
-reads_medium Begin = false
-reads_medium (Ask txn field change) = false
-reads_medium (Commit txn) = false
-reads_medium (Abort txn) = false
-reads_medium (Give to field kind amount) = false
-reads_medium (Restate to field kind) = false
-reads_medium (Spare to field kind want) = false
-reads_medium (Tighten field kind amount) = false
-reads_medium (Accept told) = false
-reads_medium (Read field) = false
-reads_medium (Share field) = false
-
 -- How an append goes behind a cut of this rest that fails: there is none where there is nothing to cut.
 abbrev pub luck_of_cut : List ℕ → Luck
 luck_of_cut [] = Fine
 luck_of_cut (b ∷ rest) = Torn 0
 
--- How the append of a command goes under a mishap, over a medium with this rest behind the last line feed.
+-- How the append of a command goes under a mishap, over a medium with this rest behind the last line feed. A restart alone reads the
+-- medium first, and cuts that rest.
 abbrev pub luck_under : Command → List ℕ → Mishap → Luck
 luck_under command rest (mishaps.Append bytes) = Torn bytes
-luck_under command rest mishaps.Cut = if reads_medium command then luck_of_cut rest else Fine
+luck_under command rest mishaps.Cut = if asks_restart command then luck_of_cut rest else Fine
 luck_under command rest mishaps.Read = Fine
 luck_under command rest mishaps.Never = Fine
 
@@ -322,7 +245,7 @@ is_for_reads mishaps.Cut = false
 -- The reply under a mishap that is known, over a medium that holds these records and this rest: a restart reads first.
 abbrev pub owed_under : SiteValue → List Record → List ℕ → Command → Mishap → Reply
 owed_under v rs rest command mishap =
-    if reads_medium command && is_for_reads mishap
+    if asks_restart command && is_for_reads mishap
     then StillDown
     else owed_with (here v) (greatest rs) (found_of v.doubt rs) command (luck_under command rest mishap)
 

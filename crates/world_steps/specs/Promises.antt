@@ -1,12 +1,12 @@
 -- What is promised of every trace of a world, beside what makes it a run of one central store (this project).
 use Rattle.std.specs.Prelude.{◌≡◌, ℕ, ◌≤ℤ◌, Bool, true, false, List, [], ◌∷◌}
 use Rattle.field_bounds.specs.declared.entry.Reply.{Reply}
-use Rattle.field_bounds.specs.declared.entry.Reply.TheVariants.{Begun, Granted, Committed, Aborted, Given, Stated, Spared, Tightened, Accepted, Between, Shares, Restarted, Unsure, StillDown, Refused}
 use Rattle.field_bounds.specs.declared.entry.Refusal.{Refusal}
 use Rattle.field_bounds.specs.declared.entry.Refusal.TheVariants.{Down, NoSite, NoField, NoTransaction, Zero, TooLarge, Short, SelfGift, LedgerFull, NotYours, Forged, TooManyOpen, TooManyEscrows, NumbersFull, NothingGiven}
 use Rattle.field_bounds.specs.declared.entry.Entry.{Entry}
 use Rattle.field_bounds.specs.Schema.{SchemaValue}
 use Rattle.field_bounds.specs.Central.{inf, sup, floor_in, ceiling_in, OutcomesAreBounded, IsSound, IsCentral, IsConservedThroughout}
+use Rattle.field_bounds.specs.Shape.{answered, restarted, in_doubt, stays_down, refused, shape}
 
 -- Of each field, the infimum is at the floor or above, and the supremum at the ceiling or below: however the open
 -- transactions end, the value stays within its bounds (O'Neil 1986).
@@ -53,21 +53,14 @@ is_strange NothingGiven = false
 
 -- A reply that is neither of these refusals.
 abbrev pub IsFamiliar : Reply → Type 0
-IsFamiliar (Refused refusal) = is_strange refusal ≡ false
-IsFamiliar (Begun txn) = Unit {0}
-IsFamiliar Granted = Unit {0}
-IsFamiliar Committed = Unit {0}
-IsFamiliar Aborted = Unit {0}
-IsFamiliar (Given total) = Unit {0}
-IsFamiliar (Stated total) = Unit {0}
-IsFamiliar (Spared amount total) = Unit {0}
-IsFamiliar (Tightened total) = Unit {0}
-IsFamiliar (Accepted gain) = Unit {0}
-IsFamiliar (Between lo hi) = Unit {0}
-IsFamiliar (Shares lower raise) = Unit {0}
-IsFamiliar (Restarted epoch found) = Unit {0}
-IsFamiliar Unsure = Unit {0}
-IsFamiliar StillDown = Unit {0}
+IsFamiliar r =
+    elim (shape r) [
+      | answered ↦ Unit {0}
+      | restarted _ _ ↦ Unit {0}
+      | in_doubt ↦ Unit {0}
+      | stays_down ↦ Unit {0}
+      | refused refusal ↦ is_strange refusal ≡ false
+    ]
 
 -- No entry of a trace has one of these refusals.
 abbrev pub NoneStrange : List Entry → Type 0

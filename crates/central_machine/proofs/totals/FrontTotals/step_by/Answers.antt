@@ -1,7 +1,9 @@
-use Rattle.std.proofs.Common.{◌<◌, ◌≤◌, ℕ, ap, set, refl, rules, arith}
+use Rattle.std.proofs.Common.{◌<◌, ◌≤◌, ℕ, Option, ap, set, subst, refl, rules, arith}
 use Rattle.std.proofs.lemmas.Bool.{ltb-true}
+use Rattle.field_bounds.specs.declared.effect.Effect.{Effect}
 use Rattle.central_rules.specs.Verdict.{rules as all_rules}
 use Rattle.central_rules.proofs.Verdicts.{all_hold}
+use Rattle.central_machine.specs.Sums.{SumsAfter}
 use Rattle.central_machine.proofs.Sites.{ok_then}
 use Rattle.central_machine.proofs.Totals_more.{totals_more}
 use Rattle.central_machine.proofs.Row.{found_at}
@@ -12,7 +14,11 @@ returns-in-Some c =
     let item = c.in-Some.ensures.item in
     let at = found_at c.args.self.now.sites.items c.args.self.now.sites.items c.from.result c.args.entry.now.site.0 c.in-Some.site.now refl
     c.from.ensures item.0 item.1 in
-    let summed = rw (c.effect_by-effect.ensures) at c.after.ensures in
+    let summed =
+    subst
+    (λ (e : Option Effect). SumsAfter e c.args.entry.now.reply c.in-Some.site.now.doubt c.in-Some.site.now.numbers.journal.rows.items
+    c.args.self.now.sums c.after.new.self)
+    c.effect_by-effect.ensures c.after.ensures in
     let put = rw (c.effect_by-effect.ensures) at c.put_in.ensures in
     ok_then c.put_in.result (λ took t few is legal good.
     totals_more c.args.schema.now c.sites-sites.ensures.limits c.args.entry.now t few legal good c.args.self.now _ c.in-Some.site.now
