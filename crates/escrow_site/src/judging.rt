@@ -5,7 +5,7 @@ ghost use Rattle.std.specs.Prelude.{◌≢◌, None};
 use field_bounds::SiteNo;
 use file_medium::FileFailed;
 use folder_faults::{Fault, Why, failed, refused};
-use script_input::{Sink, Watched};
+use script_input::{PIECE, Sink, Watched};
 use site_folder::trace_name;
 use std::alloc::Global;
 use std::fs::File;
@@ -15,9 +15,6 @@ use std::os::unix::fs::FileExt;
 use trace_windows::{ReadAt, TraceWindow, TraceWindows, WindowFault};
 use world_folders::{SiteFolder, WorldFolders, read_kept_entries, read_world, tell_reading};
 use woven_verdict::{Verdict, VerdictFault, judge_histories, verdict_line};
-
-/// How many bytes of a trace are read at a time.
-const PIECE: usize = 65_536;
 
 /// The file of a trace, which keeps what the system told of a read that failed.
 ///

@@ -5,13 +5,10 @@ ghost use Rattle.std.specs.Prelude.{◌≤◌, length};
 use entry_text::append_entry;
 use field_bounds::{Entry, Schema};
 use folder_faults::Fault;
-use script_input::{Sink, Watched};
+use script_input::{PIECE, Sink, Watched};
 use std::alloc::{AllocError, Global};
 use trace_weave::{WeaveFault, WovenEntries, weave_order};
 use world_folders::{WorldFolders, read_histories, read_world};
-
-/// How many bytes gather before they are written.
-const PIECE: usize = 65_536;
 
 // One trace of all sites: the order in which it takes the entries of the histories.
 fn order_of(alloc: Global, histories: &[Vec<Entry>]) -> Result<Vec<u16>, Fault>
