@@ -186,7 +186,7 @@ def field_places(made: Tables) -> dict[str, int]:
 
 def faults_of_words(made: Tables) -> Iterator[str]:
     """Places that have words alone."""
-    place = "crates/site_service/src/line_fault.rt"
+    place = "crates/request_lines/src/line_fault.rt"
     there = re.findall(r'is_text\(name, "(\w+)"\)', text_of(place))
     yield from differing(place, "", {it: "a command" for it in there}, {it.words: "a command" for it in made.commands.values()})
     place = "tools/trace_entries.py"

@@ -19,7 +19,7 @@ use Rattle.site_step.specs.declared.site.opening.OpenFault.{OpenFault}
 use Rattle.site_step.specs.declared.site.opening.OpenFault.TheVariants.{Line}
 use Rattle.kept_records.specs.declared.medium.Mishap.TheVariants.{Never}
 use Rattle.script_input.specs.Lines.{last_part}
-use Rattle.site_service.specs.Answers.{Asks}
+use Rattle.request_lines.specs.Requests.{Asks}
 use Rattle.site_service.proofs.Whole.{grows_by, whole_opened}
 use Rattle.site_handle.specs.Session.{IsSoundSession, Answers, Tells}
 

@@ -12,7 +12,7 @@ use Rattle.entry_text.specs.Spelling.{entry_text}
 use Rattle.site_step.specs.Site.{SiteValue, Applies, Opens, entry_of}
 use Rattle.site_step.specs.Calls.{IsSure}
 use Rattle.site_step.specs.Opening.{IsFirstBad}
-use Rattle.site_service.specs.Answers.{Asks}
+use Rattle.request_lines.specs.Requests.{Asks}
 use Rattle.site_service.specs.Opening.{AreLines}
 use Rattle.site_service.specs.Service.{IsWhole, Grows}
 use Rattle.site_handle.specs.Lines.{IsUnasked}

@@ -5,7 +5,7 @@ ghost use Rattle.field_bounds.specs.Header.{schema_of};
 ghost use Rattle.entry_text.specs.Spelling.{reply_text};
 ghost use Rattle.script_input.specs.Lines.{last_part};
 ghost use Rattle.site_step.specs.Site.{Opens};
-ghost use Rattle.site_service.specs.Answers.{Asks};
+ghost use Rattle.request_lines.specs.Requests.{Asks};
 ghost use Rattle.site_handle.specs.Lines.{IsUnasked};
 ghost use Rattle.site_handle.specs.Session.{IsOpenOver, IsWhyClosed, TellsNoSchema, TellsBadLine, Answers, Does, Tells, Leaves};
 

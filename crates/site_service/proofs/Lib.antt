@@ -16,9 +16,5 @@ pub mod Spares
 pub mod ToldMore
 pub mod Shortens
 pub mod Starts
-pub mod Questions
-pub mod LastWords
-pub mod Since
 pub mod Told
 pub mod Tracing
-pub mod WordFaults

@@ -14,14 +14,16 @@ use Rattle.log_head.specs.declared.gone.Gone.{Gone}
 use Rattle.site_service.specs.declared.key_answer.KeyAnswer.{KeyAnswer}
 use Rattle.site_service.specs.declared.key_answer.KeyAnswer.TheVariants.{No}
 use Rattle.site_service.specs.LetGo.{let_go_of, commit_answer, key_answer}
-use Rattle.site_service.specs.declared.bad_line.BadLine.{BadLine}
-use Rattle.site_service.specs.declared.bad_line.BadLine.TheVariants.{TooLong, OtherSite, UnknownWord, NoField, NoCommand}
+use Rattle.request_lines.specs.declared.bad_line.BadLine.{BadLine}
+use Rattle.request_lines.specs.declared.bad_line.BadLine.TheVariants.{TooLong, OtherSite, UnknownWord, NoField, NoCommand}
 use Rattle.field_bounds.specs.declared.id.TxnId.{TxnId}
 use Rattle.entry_text.specs.Ranges.{IdFits}
-use Rattle.site_service.specs.Kept.{LastNotes, TellsCommit, TellsKey, kept_text, kept_words, kept_key_text, kept_key_words}
-use Rattle.site_service.specs.Answers.{Served, served_of, whole_of, IsStill, Asks, AsksCommit, Answered, CarriedOut, LeavesCommand, NotesCommit, CommitsWith, CommittedWithKey, IsBad, bad_text, Passed, LeavesAnswer}
-use Rattle.site_service.specs.declared.asking.KeyedCommit.{KeyedCommit}
-use Rattle.site_service.specs.Asking.{AsksKey, SpellsCommit}
+use Rattle.site_service.specs.Kept.{LastNotes, TellsCommit, TellsKey, kept_words, kept_key_words}
+use Rattle.request_lines.specs.Requests.{kept_text, kept_key_text, Asks, AsksCommit}
+use Rattle.site_service.specs.Answers.{Served, served_of, whole_of, IsStill, Answered, CarriedOut, LeavesCommand, NotesCommit, CommitsWith, CommittedWithKey, Passed, LeavesAnswer}
+use Rattle.request_lines.specs.BadLines.{IsBad, bad_text}
+use Rattle.request_lines.specs.declared.asking.KeyedCommit.{KeyedCommit}
+use Rattle.request_lines.specs.Asking.{AsksKey, SpellsCommit}
 use Rattle.site_service.specs.Service.{Tells, TellsEntry}
 use Rattle.site_service.proofs.Held.{applies_whole, answered_whole}
 

@@ -1,6 +1,5 @@
 -- What a site answers to lines (this project).
-use Rattle.std.specs.Prelude.{◌≡◌, ◌≢◌, ◌⊎◌, ◌<◌, ◌≤◌, ℕ, Bool, true, false, if◌then◌else◌, List, [], ◌∷◌, ◌++◌, length, Option, None, Some, codes}
-use Rattle.std.specs.Fmt.{decimal}
+use Rattle.std.specs.Prelude.{◌≡◌, ◌≢◌, ◌⊎◌, ℕ, Bool, true, false, if◌then◌else◌, List, [], ◌∷◌, ◌++◌, Option, None}
 use Rattle.field_bounds.specs.Schema.{SchemaValue}
 use Rattle.field_bounds.specs.declared.id.SiteNo.{SiteNo}
 use Rattle.field_bounds.specs.declared.id.TxnId.{TxnId}
@@ -9,20 +8,18 @@ use Rattle.field_bounds.specs.declared.entry.Command.TheVariants.{Commit}
 use Rattle.field_bounds.specs.declared.entry.Reply.{Reply}
 use Rattle.field_bounds.specs.declared.entry.Reply.TheVariants.{Committed}
 use Rattle.site_step.specs.Site.{SiteValue, Applies, entry_of}
-use Rattle.site_step.specs.Shortening.{held_of, is_up_to}
+use Rattle.site_step.specs.Shortening.{held_of}
 use Rattle.log_head.specs.declared.gone.Gone.{Gone}
-use Rattle.entry_text.specs.Spelling.{command_text, entry_text}
-use Rattle.entry_text.specs.Ranges.{SiteFits, IdFits, CommandFits}
-use Rattle.entry_text.specs.Lines.{max_line}
+use Rattle.entry_text.specs.Spelling.{entry_text}
+use Rattle.entry_text.specs.Ranges.{IdFits}
 use Rattle.script_input.specs.Streams.{one_more}
-use Rattle.line_words.specs.Words.{words}
-use Rattle.site_service.specs.LineFaults.{fault_in}
 use Rattle.caller_keys.specs.Keys.{IsKey}
+use Rattle.request_lines.specs.declared.bad_line.BadLine.{BadLine}
+use Rattle.request_lines.specs.Requests.{Asks, AsksCommit, kept_text, kept_key_text, with_since, SinceFits}
+use Rattle.request_lines.specs.BadLines.{IsBad, bad_text}
 use Rattle.site_service.specs.declared.key_answer.KeyAnswer.TheVariants.{No}
 use Rattle.site_service.specs.LetGo.{LetGo, let_go_of, commit_answer, key_answer}
-use Rattle.site_service.specs.Kept.{LastNotes, last_of, noted, TellsCommit, TellsKey, kept_text, kept_words, kept_key_text, kept_key_words, with_since, SinceFits}
-use Rattle.site_service.specs.declared.bad_line.BadLine.{BadLine}
-use Rattle.site_service.specs.declared.bad_line.BadLine.TheVariants.{TooLong, OtherSite, UnknownWord, NoField, NoCommand}
+use Rattle.site_service.specs.Kept.{LastNotes, last_of, noted, TellsCommit, TellsKey, kept_words, kept_key_words}
 
 -- A site as if nothing of its log had been let go: where the bytes of the log lie makes no difference to what it answers.
 abbrev pub whole_of : SiteValue → SiteValue
@@ -56,11 +53,6 @@ pub record IsStill (old new : Served) : Type 0 where
 
 -- ---- a line that asks something
 
--- The line is the text of a command of this site.
-pub record Asks (schema : SchemaValue) (number : SiteNo) (line : List ℕ) (command : Command) : Type 0 where
-  pub fits : CommandFits command
-  pub text : line ≡ command_text schema number command
-
 -- The site carried out a command, and the text is that of its entry, with a line feed (10).
 pub record Answered (old : SiteValue) (command : Command) (new : SiteValue) (text : List ℕ) : Type 0 where
   pub reply : Reply
@@ -91,24 +83,6 @@ pub record ToldKept (old : Served) (line : List ℕ) (new : Served) (text : List
   pub told : text ≡ line ++ kept_words (commit_answer old.let_go.told txn kept)
 
 -- ---- a line with a key
-
--- The text of a commit with a key: of the command, the word `key`, and the key.
-abbrev pub commit_text : SchemaValue → SiteNo → TxnId → List ℕ → List ℕ
-commit_text schema site txn key = command_text schema site (Commit txn) ++ (codes " key " ++ key)
-
--- The transaction is behind this position, where one is told: it is of a later epoch, or of its epoch with a greater number.
-abbrev pub IsBehindSince : Option TxnId → TxnId → Type 0
-IsBehindSince None txn = Unit {0}
-IsBehindSince (Some since) txn = is_up_to since txn ≡ false
-
--- The line is the text of a commit with a key at this site; it may tell since when the key is looked for: a position that the transaction
--- is behind. Else its own commit wouldn't be looked for, when the order is asked for again.
-pub record AsksCommit (schema : SchemaValue) (number : SiteNo) (line : List ℕ) (txn : TxnId) (key : List ℕ) (since : Option TxnId) : Type 0 where
-  pub fits : IdFits txn
-  pub is_key : IsKey key
-  pub since_fits : SinceFits since
-  pub behind : IsBehindSince since txn
-  pub text : line ≡ with_since (commit_text schema number txn key) since
 
 -- The reply tells that a transaction was committed.
 abbrev pub is_committed : Reply → Bool
@@ -165,45 +139,6 @@ pub record ToldKey (old : Served) (line : List ℕ) (new : Served) (text : List 
   pub told : text ≡ line ++ kept_key_words (key_answer old.let_go.told since kept)
 
 -- ---- a line that asks nothing
-
--- The line has no more than 256 bytes, and is the text neither of a command of a site of the schema, with or without a key, nor of a
--- question for a commit or for a key; with a key it may tell since when.
-pub record AsksNothing (schema : SchemaValue) (line : List ℕ) : Type 0 where
-  pub short : length line ≤ max_line
-  pub command : (site : SiteNo) (command : Command) → site.0 < schema.sites → SiteFits site → CommandFits command
-      → line ≢ command_text schema site command
-  pub with_key : (site : SiteNo) (txn : TxnId) (key : List ℕ) (since : Option TxnId) → site.0 < schema.sites → SiteFits site
-      → AsksCommit schema site line txn key since → ⊥
-  pub question : (txn : TxnId) → IdFits txn → line ≢ kept_text txn
-  pub key_question : (key : List ℕ) (since : Option TxnId) → IsKey key → SinceFits since → line ≢ with_since (kept_key_text key) since
-
--- The line is the text of a command of this site, with or without a key.
-abbrev pub IsOrder : SchemaValue → SiteNo → List ℕ → Type 0
-IsOrder schema site line =
-    ((command : Command) × (line ≡ command_text schema site command))
-    ⊎ ((txn : TxnId) × (key : List ℕ) × (since : Option TxnId) × AsksCommit schema site line txn key since)
-
--- Why a line asks nothing of a site: it has more than 256 bytes; or it has no more, and is the text of a command of another site of
--- the schema, or neither of a command of such a site nor of a question, by what its words tell.
-abbrev pub IsBad : SchemaValue → SiteNo → List ℕ → BadLine → Type 0
-IsBad schema number line TooLong = max_line < length line
-IsBad schema number line OtherSite = (length line ≤ max_line)
-    × ((site : SiteNo) × (site.0 < schema.sites) × (site ≢ number) × IsOrder schema site line)
-IsBad schema number line UnknownWord = AsksNothing schema line × (fault_in schema (words line) ≡ UnknownWord)
-IsBad schema number line NoField = AsksNothing schema line × (fault_in schema (words line) ≡ NoField)
-IsBad schema number line NoCommand = AsksNothing schema line × (fault_in schema (words line) ≡ NoCommand)
-
--- The words that tell it.
-abbrev pub bad_words : BadLine → List ℕ
-bad_words TooLong = codes "too long"
-bad_words OtherSite = codes "other site"
-bad_words UnknownWord = codes "unknown word"
-bad_words NoField = codes "no such field"
-bad_words NoCommand = codes "no command"
-
--- The answer to the line of this number, with a line feed (10).
-abbrev pub bad_text : ℕ → BadLine → List ℕ
-bad_text number why = codes "bad line " ++ (decimal number ++ (32 ∷ (bad_words why ++ 10 ∷ [])))
 
 -- All stays as it is, and the text tells the line's number, and why it asks nothing.
 pub record Passed (old : Served) (line : List ℕ) (new : Served) (text : List ℕ) : Type 0 where

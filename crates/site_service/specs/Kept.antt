@@ -1,4 +1,4 @@
--- Which commits a log holds, and how it is asked (this project).
+-- Which commits a log holds, and how that is told (this project).
 use Rattle.std.specs.Prelude.{◌≡◌, ℕ, Bool, if◌then◌else◌, List, [], ◌∷◌, ◌++◌, Option, None, Some, bytes_eq, codes}
 use Rattle.field_bounds.specs.declared.id.TxnId.{TxnId}
 use Rattle.kept_records.specs.declared.record.Record.{Record}
@@ -10,7 +10,6 @@ use Rattle.log_head.specs.declared.horizon.CommitAnswer.TheVariants.{Yes, No, Fo
 use Rattle.log_head.specs.Horizons.{IsRight}
 use Rattle.std.specs.Map.{lookup}
 use Rattle.entry_text.specs.Spelling.{id_text}
-use Rattle.entry_text.specs.Ranges.{IdFits}
 use Rattle.caller_keys.specs.Tables.{stored_of}
 use Rattle.site_service.specs.declared.key_answer.KeyAnswer.{KeyAnswer}
 use Rattle.site_service.specs.declared.key_answer.KeyAnswer.TheVariants as keys
@@ -28,11 +27,7 @@ AnswersCommit held told txn answer = (kept : Bool) × TellsCommit held txn kept 
 abbrev pub IsRightOf : List ℕ → TxnId → CommitAnswer → Type 0
 IsRightOf bytes txn answer = (rs : List Record) (rest : List ℕ) → IsLog bytes rs rest → IsRight answer (has_commit txn rs)
 
--- The question whether a commit is kept.
-abbrev pub kept_text : TxnId → List ℕ
-kept_text txn = codes "kept " ++ id_text txn
-
--- What follows the question in the answer to it, with a line feed (10).
+-- What follows the question for a commit in the answer to it, with a line feed (10).
 abbrev pub kept_words : CommitAnswer → List ℕ
 kept_words Yes = codes " -> yes" ++ 10 ∷ []
 kept_words No = codes " -> no" ++ 10 ∷ []
@@ -72,21 +67,7 @@ TellsKey bytes last key kept = (rs : List Record) (rest : List ℕ) → IsLog by
 abbrev pub AnswersKey : List ℕ → Option Gone → LastNotes → List ℕ → Option TxnId → KeyAnswer → Type 0
 AnswersKey held told last key since answer = (kept : Option TxnId) × TellsKey held last key kept × (answer ≡ key_answer told since kept)
 
--- A text that ends in a key, and behind it since when, where that is told: a position, spelled as a transaction.
-abbrev pub with_since : List ℕ → Option TxnId → List ℕ
-with_since text None = text
-with_since text (Some since) = text ++ (codes " since " ++ id_text since)
-
--- Such a position has the numbers of a transaction, of 32 bits.
-abbrev pub SinceFits : Option TxnId → Type 0
-SinceFits None = Unit {0}
-SinceFits (Some since) = IdFits since
-
--- The question which commit is kept with a key.
-abbrev pub kept_key_text : List ℕ → List ℕ
-kept_key_text key = codes "kept key " ++ key
-
--- What follows the question in the answer to it, with a line feed (10).
+-- What follows the question for a key in the answer to it, with a line feed (10).
 abbrev pub kept_key_words : KeyAnswer → List ℕ
 kept_key_words (keys.Kept txn) = codes " -> " ++ (id_text txn ++ 10 ∷ [])
 kept_key_words keys.No = codes " -> no" ++ 10 ∷ []

@@ -6,10 +6,8 @@ pub mod Counting
 pub mod Stops
 pub mod Kept
 pub mod LetGo
-pub mod LineFaults
 pub mod Index
 pub mod Behind
 pub mod Shortening
 pub mod Shorter
 pub mod Rising
-pub mod Asking

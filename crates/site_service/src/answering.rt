@@ -7,15 +7,14 @@ ghost use Rattle.kept_records.specs.Keeping.{IsKept};
 ghost use Rattle.field_bounds.specs.declared.entry.Command.{Command as CommandType};
 ghost use Rattle.field_bounds.specs.declared.id.TxnId.{TxnId as Txn};
 ghost use Rattle.caller_keys.specs.Keys.{KeyNote};
-ghost use Rattle.site_service.specs.Answers.{served_of, AsksCommit, CommitsWith, LeavesCommand, LeavesAnswer};
+ghost use Rattle.site_service.specs.Answers.{served_of, CommitsWith, LeavesCommand, LeavesAnswer};
+ghost use Rattle.request_lines.specs.Requests.{AsksCommit};
 ghost use Rattle.site_service.specs.Index.{IsIndexOf, IsBehind, GoesOn};
 ghost use Rattle.site_service.specs.Kept.{TellsCommit, TellsKey, kept_words, kept_key_words};
 ghost use Rattle.site_service.specs.LetGo.{commit_answer, key_answer};
 ghost use Rattle.site_service.specs.Service.{StandsOnHeld, Tells, TellsEntry};
 ghost use Rattle.site_step.specs.Shortening.{held_of};
 
-use crate::asking::{KeyedCommit, Request, asked};
-use crate::bad_line::add_bad;
 use crate::kept::KeptCommits;
 use crate::key_answer::KeyAnswer;
 use crate::keyed::{add_asked_key, add_kept_key, commit_and_note, kept_with};
@@ -27,6 +26,7 @@ use field_bounds::{Command, Entry, Reply, Schema, SiteNo, TxnId};
 use history::GhostHistory;
 use kept_records::MemoryMedium;
 use log_head::{CommitAnswer, Gone};
+use request_lines::{KeyedCommit, Request, add_bad, asked};
 use site_step::Site;
 use std::alloc::{AllocError, Global};
 

@@ -11,7 +11,8 @@ ghost use Rattle.kept_records.specs.Keeping.{IsKept};
 ghost use Rattle.site_service.specs.Shortening.{KeepsHeldNotes};
 ghost use Rattle.site_service.specs.Shorter.{noted_if};
 ghost use Rattle.site_service.specs.Index.{IsIndexOf, IsBehind};
-ghost use Rattle.site_service.specs.Kept.{last_of, noted, TellsKey, kept_key_text, kept_key_words};
+ghost use Rattle.site_service.specs.Kept.{last_of, noted, TellsKey, kept_key_words};
+ghost use Rattle.request_lines.specs.Requests.{kept_key_text};
 ghost use Rattle.site_service.specs.Answers.{is_committed, NotesCommit};
 ghost use Rattle.site_step.specs.Site.{Applies};
 

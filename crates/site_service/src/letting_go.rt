@@ -16,6 +16,7 @@ use field_bounds::{Entry, MAX_OPEN, TxnId};
 use history::GhostHistory;
 use kept_records::MemoryMedium;
 use log_head::Gone;
+use request_lines::is_up_to;
 use site_step::Site;
 use std::alloc::{AllocError, Global};
 
@@ -65,14 +66,6 @@ pub(crate) fn counted(told: &Option<Gone>, bytes: u64, records: u64) -> Option<(
     let bytes = bytes_told(told).checked_add(bytes)?;
     let records = records_told(told).checked_add(records)?;
     Some((bytes, records))
-}
-
-/// Whether a transaction is of an earlier epoch than another, or of its epoch with a number up to its
-/// own.
-pub(crate) fn is_up_to(latest: TxnId, txn: TxnId) -> bool
-    ensures { result ≡ is_up_to latest txn }
-{
-    txn.epoch < latest.epoch || (txn.epoch == latest.epoch && txn.number <= latest.number)
 }
 
 // The later of two transactions.

@@ -3,8 +3,6 @@
 #![tactic(auto)]
 
 mod answering;
-mod asking;
-mod bad_line;
 mod behind;
 mod fault;
 mod following;
@@ -14,20 +12,19 @@ mod keyed;
 mod keys;
 mod laws;
 mod letting_go;
-mod line_fault;
 mod no_trace;
 mod opening;
 mod service;
 mod telling;
 mod txn_set;
 
-pub use bad_line::BadLine;
 pub use caller_keys::{Key, read_key};
 pub use fault::ServeFault;
 pub use key_answer::KeyAnswer;
 pub use laws::stop_leaves_a_front;
 pub use log_head::{CommitAnswer, Gone, Horizon};
 pub use no_trace::NoTrace;
+pub use request_lines::BadLine;
 pub use script_input::{CallEnd, CallFailed, Sink, Source, Watched};
 pub use service::Service;
 pub use short_log::{PutFault, ShortLog};

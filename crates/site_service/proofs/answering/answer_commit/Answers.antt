@@ -3,7 +3,8 @@ use Rattle.std.proofs.lemmas.Result.{on_ok_weaker, on_err_weaker}
 use Rattle.kept_records.specs.Keeping.{IsKept}
 use Rattle.site_service.specs.declared.key_answer.KeyAnswer.{KeyAnswer}
 use Rattle.site_service.specs.declared.key_answer.KeyAnswer.TheVariants.{Kept, No, Forgotten}
-use Rattle.site_service.specs.Kept.{TellsKey, kept_key_text, kept_key_words}
+use Rattle.site_service.specs.Kept.{TellsKey, kept_key_words}
+use Rattle.request_lines.specs.Requests.{kept_key_text}
 use Rattle.site_service.specs.Index.{IsIndexOf}
 use Rattle.site_service.proofs.Index.{index_grows}
 use Rattle.site_step.specs.Shortening.{held_of}

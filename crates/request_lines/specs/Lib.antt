@@ -1,0 +1,4 @@
+pub mod Requests
+pub mod Asking
+pub mod LineFaults
+pub mod BadLines

@@ -1,0 +1,11 @@
+//! What a client's line asks of a site, and how it is answered where it asks nothing.
+#![tactic(auto)]
+
+mod asking;
+mod bad_line;
+mod line_fault;
+mod position;
+
+pub use asking::{KeyedCommit, Request, asked};
+pub use bad_line::{BadLine, add_bad};
+pub use position::is_up_to;

@@ -1,5 +1,0 @@
-use Rattle.std.proofs.Common.{arith}
-use Rattle.site_service.proofs.asking.asked.Goals as goal
-
-pub asked_command-requires : goal.asked_command-requires
-asked_command-requires c = record { short = omega arith; question = c.in-None.ensures.none }
