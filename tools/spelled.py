@@ -85,9 +85,24 @@ def ints(found: list[tuple[str, str]]) -> dict[str, int]:
     return {name: int(number) for name, number in found}
 
 
+def list_behind(text: str, behind: str) -> str:
+    """What the first list in braces or brackets behind a text has."""
+    return re.split(r"[})]", text.partition(behind)[2], maxsplit=1)[0]
+
+
 def array(text: str, behind: str) -> list[str]:
     """The texts of the first list in braces or brackets behind a text."""
-    return re.findall(r'"([^"]*)"', re.split(r"[})]", text.partition(behind)[2], maxsplit=1)[0])
+    return re.findall(r'"([^"]*)"', list_behind(text, behind))
+
+
+def array_of_c(text: str, behind: str, rows: dict[str, Row]) -> dict[str, str]:
+    """The texts of an array of C by their places, of which one may be named: `[ESCROW_SHARE] = "share"`."""
+    numbers, words, at = {f"ESCROW_{it.upper}": it.number for it in rows.values()}, dict[str, str](), 0
+    for name, word in re.findall(r'(?:\[(\w+)\] = )?"([^"]*)"', list_behind(text, behind)):
+        at = numbers.get(name, 0) if name else at
+        words[str(at)] = word
+        at += 1
+    return words
 
 
 def in_order(rows: dict[str, Row]) -> list[str]:
@@ -116,9 +131,9 @@ def faults_of_c(made: Tables) -> Iterator[str]:
     if codes != sorted(telling.values()):
         yield f"clients/c/random_calls.c: refusals {codes} tell a number, and the definitions have {sorted(telling.values())}"
     for function, rows in (("spell(", made.commands), ("spell_refusal(", made.refusals), ("spell_reply(", made.replies)):
-        due = [it for it in in_order(rows) if it != "refused"]
-        words = array(calls.partition(f"static void {function}")[2], "words[] = {")
-        yield from differing("clients/c/random_calls.c", f"{function}..): word ", by_place(words), by_place(due))
+        due = {str(it.number): it.words for it in rows.values() if it.words != "refused"}
+        words = array_of_c(calls.partition(f"static void {function}")[2], "words[] = {", rows)
+        yield from differing("clients/c/random_calls.c", f"{function}..): word ", words, {"0": "", **due})
 
 
 def faults_of_rust(made: Tables) -> Iterator[str]:
@@ -194,17 +209,22 @@ def faults_of_words(made: Tables) -> Iterator[str]:
         text = text_of(place).partition(f"\n{name} = (")[2].partition(")\n")[0]
         there = re.findall(r'"([a-z]+(?: [a-z]+)*)', text)
         yield from differing(place, f"{name}: ", {it: "there" for it in there}, {it.words: "there" for it in rows.values()})
+    place = "crates/escrow/src/main.rt"                 # a script has no `accept`: `deliver` is its line
+    told = re.findall(r"^  SITE (\w+)", text_of(place), re.M)
+    due = {it.words: "in the help" for it in made.commands.values() if it.name != "Accept"}
+    yield from differing(place, "", {it: "in the help" for it in told}, due)
 
 
 def faults_of_formats(made: Tables) -> Iterator[str]:
     place = "docs/FORMATS.md"
     text = text_of(place)
     spans = re.findall(r"`([^`\n]+)`", text)
+    of_commands = re.findall(r"`([^`\n]+)`", text.partition("\n## Commands\n")[2].partition("\n## ")[0])
     for row in made.commands.values():
-        if not any(re.match(rf"SITE {row.words}\b", it) for it in spans):
+        if not any(re.match(rf"SITE {row.words}\b", it) for it in of_commands):
             yield f"{place}: has no command `SITE {row.words}`"
     for row in made.replies.values():
-        if row.name != "Refused" and not any(re.match(rf"{row.words}\b", it) for it in spans):
+        if row.name != "Refused" and not any(re.match(rf"{row.words}\b", it) for it in of_commands):
             yield f"{place}: has no reply `{row.words}`"
     told = [re.fullmatch(r"(\d+) ([a-z]+(?: [a-z]+)*)(?: [A-Z]+)?", it) for it in spans]
     due = {it.words: it.number for it in made.refusals.values()}
