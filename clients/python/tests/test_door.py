@@ -74,7 +74,7 @@ class OwnTest(DoorTest):
             with site.transaction() as t:
                 t.lower("stock", 14)
                 process.kill()
-                wait_until(lambda: site.share("stock") == Share(6, 30), 5.0)
+                wait_until(lambda: site.share("stock") == Share(6, 30), 15.0)
         self.assertEqual(site.outcome(t.id), Outcome.COMMITTED)
         door.close()
         self.assertEqual(list(commits(door.folder, SHOP).values()), [(("stock", -14),)])
@@ -238,10 +238,10 @@ class PlacesTest(DoorTest):
         told = [greedy.line() for _ in range(1 + 68 + 64)]
         self.assertEqual((told[0], told[1:69]), ("door took 32 1.1", ["door busy"] * 68))
         site, began = self.connected(door), time.monotonic()
-        with site.transaction(timeout=1.0) as t:
+        with site.transaction(timeout=5.0) as t:
             t.lower("stock", 1)
-        self.assertLess(time.monotonic() - began, 1.0)
-        held = [site.transaction(timeout=0.2) for _ in range(17)]
+        self.assertLess(time.monotonic() - began, 5.0)
+        held = [*(site.transaction(timeout=5.0) for _ in range(16)), site.transaction(timeout=0.2)]
         for t in held[:16]:
             t.lower("stock", 1)  # as long as it holds fewer than are free
         with self.assertRaises(escrow.Busy):
@@ -250,7 +250,7 @@ class PlacesTest(DoorTest):
         greedy.close()
         held[16].lower("stock", 1, timeout=5.0)
         for t in held:
-            t.commit()
+            t.commit(timeout=5.0)
         self.assertEqual(site.share("stock").lower, 500_000 - 18)
 
     def test_one_that_gave_up_takes_no_place(self) -> None:
@@ -292,20 +292,20 @@ class SlowTest(DoorTest):
     """Who doesn't read."""
 
     def test_a_reader_that_never_reads_holds_nobody_up(self) -> None:
-        door = self.door(LARGE, "--slow", "1")
-        slow, site = self.hand(door), self.connected(door, timeout=3.0)
+        door = self.door(LARGE, "--slow", "3")
+        slow, site = self.hand(door), self.connected(door, timeout=6.0)
         slow.told("0 begin", "0 escrow .1 seats -7")
         slow.peer.setblocking(False)
-        pushed, longest, end = 0, 0.0, time.monotonic() + 10
+        pushed, longest, end = 0, 0.0, time.monotonic() + 30
         while site.share("seats") != Share(500_000, 500_000):
             self.assertLess(time.monotonic(), end)
             pushed += self.push(slow)
             began = time.monotonic()
             site.change("stock", -1)
             longest = max(longest, time.monotonic() - began)
-        self.assertLess(longest, 1.0)
+        self.assertLess(longest, 2.5)
         self.assertLess(pushed, 5_000_000)  # it isn't read from any more
-        self.assertIn("it took no answer for 1 seconds", door.text())
+        self.assertIn("it took no answer for 3 seconds", door.text())
 
     def push(self, slow: Hand) -> int:
         """As many bytes of lines as go out at once."""

@@ -169,7 +169,7 @@ class StillTest(DoorTest):
         door = self.door(SHOP)
         site = self.connected(door, timeout=0.3, backoff=escrow.Backoff(0.01, 0.05))
         t = site.transaction()
-        t.lower("stock", 2)
+        t.lower("stock", 2, timeout=5.0)
         door.stand_still()
         acts: list[Act] = [lambda: site.change("stock", -1), lambda: site.read("stock"),
                            lambda: site.give(1, "stock", escrow.Kind.LOWER, 1)]  # fmt: skip
@@ -193,7 +193,7 @@ class StillTest(DoorTest):
 
         async def tasks() -> list[object]:
             async with escrow.AsyncSite.connect(door.path, timeout=0.3) as shop:
-                await asyncio.gather(*(shop.change("stock", -1) for _ in range(64)))
+                await asyncio.gather(*(shop.change("stock", -1, timeout=5.0) for _ in range(64)))
                 door.stand_still()
                 began = time.monotonic()
                 told = await asyncio.gather(*(shop.change("stock", -1) for _ in range(64)), return_exceptions=True)

@@ -67,10 +67,11 @@ def copy_packages(top: str) -> str:
     return packages
 
 
-def passes(packages: str, *tests: str) -> bool:
+def failure(packages: str, *tests: str) -> str:
+    """What they told, where they don't pass, or nothing."""
     words = [sys.executable, "-m", "unittest", "-q", *tests]
-    ran = subprocess.run(words, cwd=os.path.join(packages, "tests"), capture_output=True, timeout=150, check=False)
-    return ran.returncode == 0
+    ran = subprocess.run(words, cwd=os.path.join(packages, "tests"), capture_output=True, text=True, timeout=150, check=False)
+    return ran.stderr or "failed" if ran.returncode else ""
 
 
 def by_module(edits: list[Edit]) -> list[list[str]]:
@@ -81,10 +82,10 @@ def by_module(edits: list[Edit]) -> list[list[str]]:
     return [sorted(tests) for tests in found.values()]
 
 
-def pass_unmade(tests: list[str]) -> bool:
-    """Whether these pass without any mistake."""
+def failure_unmade(tests: list[str]) -> str:
+    """What these told, where they don't pass without any mistake."""
     with tempfile.TemporaryDirectory() as top:
-        return passes(copy_packages(top), *tests)
+        return failure(copy_packages(top), *tests)
 
 
 def is_seen(edit: Edit) -> bool:
@@ -92,7 +93,7 @@ def is_seen(edit: Edit) -> bool:
     with tempfile.TemporaryDirectory() as top:
         packages = copy_packages(top)
         make_mistake(packages, edit)
-        return not passes(packages, edit.test)
+        return bool(failure(packages, edit.test))
 
 
 class WrongBodiesTest(unittest.TestCase):
@@ -103,10 +104,10 @@ class WrongBodiesTest(unittest.TestCase):
         self.assertTrue(paths)
         edits = [read_edit(path) for path in paths]
         with concurrent.futures.ThreadPoolExecutor(AT_ONCE) as pool:
-            unmade = [(tests, pool.submit(pass_unmade, tests)) for tests in by_module(edits)]
+            unmade = [pool.submit(failure_unmade, tests) for tests in by_module(edits)]
             seen = [pool.submit(is_seen, edit) for edit in edits]
-            for tests, run in unmade:
-                self.assertTrue(run.result(), f"one fails without the mistake: {tests}")
+            for run in unmade:
+                self.assertFalse(run.result(), f"one fails without the mistake:\n{run.result()}")
             for path, it in zip(paths, seen):
                 with self.subTest(os.path.basename(path)):
                     self.assertTrue(it.result(), "the mistake isn't seen")
