@@ -12,7 +12,7 @@ use Rattle.field_bounds.specs.declared.entry.Reply.TheVariants.{Begun, Granted, 
 use Rattle.field_bounds.specs.declared.entry.Last.{Last}
 use Rattle.field_bounds.specs.Schema.{SchemaValue}
 use Rattle.field_bounds.specs.Limits.{IsSchema}
-use Rattle.field_bounds.specs.Effects.{Base, fresh, with_effect, effect_of, after, effects, doubt_kept_before, says_doubt_kept, held_rights, cut}
+use Rattle.field_bounds.specs.Effects.{Base, fresh, with_effect, effect_of, after, effects, doubt_kept_before, says_doubt_kept, held_rights, cut, effect_by}
 use Rattle.field_bounds.specs.Owed.{place, Fits}
 use Rattle.field_bounds.specs.Central.{own, at_site, IsSound}
 use Rattle.field_bounds.proofs.Lawful.{IsLawful}
@@ -21,7 +21,7 @@ use Rattle.field_bounds.proofs.Traces.{own_here, sound_front, sound_fits}
 use Rattle.central_machine.specs.declared.numbers.Numbers.{Numbers}
 use Rattle.central_machine.specs.declared.field_sums.FieldSums.{FieldSums}
 use Rattle.central_machine.specs.FieldAmounts.{amount}
-use Rattle.central_machine.specs.Running.{Describes, effect_by, doubt, settled_effect}
+use Rattle.central_machine.specs.Running.{Describes, doubt, settled_effect}
 use Rattle.central_machine.specs.Open.{all_escrows}
 use Rattle.central_machine.specs.Sums.{AreSums, SettlesDoubt, Closes, SumsTake, SumsAfter}
 use Rattle.central_machine.proofs.Doubts.{dropped, restart_settles}

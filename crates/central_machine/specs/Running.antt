@@ -5,14 +5,11 @@ use Rattle.field_bounds.specs.declared.id.TxnId.{TxnId}
 use Rattle.field_bounds.specs.declared.effect.Effect.{Effect}
 use Rattle.field_bounds.specs.declared.effect.Effect.TheVariants.{Begins, Grants, Commits, Aborts, Gives, Accepts, Stops}
 use Rattle.field_bounds.specs.declared.entry.Escrow.{Escrow as EscrowOf}
-use Rattle.field_bounds.specs.declared.entry.Command.{Command}
-use Rattle.field_bounds.specs.declared.entry.Command.TheVariants.{Begin, Escrow, Commit, Abort, Give, Restate, Spare, Tighten, Accept, Read, Share, Restart}
 use Rattle.field_bounds.specs.declared.entry.Reply.{Reply}
-use Rattle.field_bounds.specs.declared.entry.Reply.TheVariants.{Begun, Granted, Committed, Aborted, Given, Spared, Tightened, Accepted, Restarted, Unsure}
 use Rattle.field_bounds.specs.declared.entry.Entry.{Entry}
 use Rattle.field_bounds.specs.Kind.{other, kind_of}
 use Rattle.field_bounds.specs.Schema.{SchemaValue}
-use Rattle.field_bounds.specs.Effects.{Base, fresh, is_begun, is_open, open_txns, escrows_of, takes, total_given, total_accepted, cut, share, held_rights, spare_amount, says_doubt_kept, effect_of, effects}
+use Rattle.field_bounds.specs.Effects.{Base, fresh, is_begun, is_open, open_txns, escrows_of, takes, total_given, total_accepted, cut, share, held_rights, says_doubt_kept, effect_by, effect_of, effects}
 use Rattle.field_bounds.specs.Owed.{Place, place, is_up, epoch_of, count_since, is_begun_reply, is_still_down, is_unsure}
 use Rattle.field_bounds.specs.Shape.{answered, restarted, in_doubt, stays_down, refused, shape}
 use Rattle.central_machine.specs.declared.numbers.Numbers.{Numbers}
@@ -146,36 +143,6 @@ Takes (Accepts from field kind total) n m = TakesIn n m from.0 field.0 kind tota
 Takes Stops n m = StopsAll n m
 
 -- ---- what is in doubt at a site
-
--- What a command does where it takes effect, at shares: a spare that is in doubt has the amount that it would have been
--- answered.
-abbrev pub effect_by : (ℕ → Kind → ℕ) → Command → Reply → Option Effect
-effect_by shares Begin (Begun txn) = Some (Begins txn)
-effect_by shares Begin reply = None
-effect_by shares (Escrow txn field change) Granted = Some (Grants txn field change)
-effect_by shares (Escrow txn field change) reply = None
-effect_by shares (Commit txn) Committed = Some (Commits txn)
-effect_by shares (Commit txn) Unsure = Some (Commits txn)
-effect_by shares (Commit txn) reply = None
-effect_by shares (Abort txn) Aborted = Some (Aborts txn)
-effect_by shares (Abort txn) reply = None
-effect_by shares (Give to field kind amount) (Given total) = Some (Gives (Some to) field kind amount)
-effect_by shares (Give to field kind amount) Unsure = Some (Gives (Some to) field kind amount)
-effect_by shares (Give to field kind amount) reply = None
-effect_by shares (Restate to field kind) reply = None
-effect_by shares (Spare to field kind want) (Spared amount total) = Some (Gives (Some to) field kind amount)
-effect_by shares (Spare to field kind want) Unsure = Some (Gives (Some to) field kind (spare_amount (shares field.0 kind) want))
-effect_by shares (Spare to field kind want) reply = None
-effect_by shares (Tighten field kind amount) (Tightened total) = Some (Gives None field kind amount)
-effect_by shares (Tighten field kind amount) Unsure = Some (Gives None field kind amount)
-effect_by shares (Tighten field kind amount) reply = None
-effect_by shares (Accept told) (Accepted gain) = Some (Accepts told.from told.field told.kind told.total)
-effect_by shares (Accept told) Unsure = Some (Accepts told.from told.field told.kind told.total)
-effect_by shares (Accept told) reply = None
-effect_by shares (Read field) reply = None
-effect_by shares (Share field) reply = None
-effect_by shares Restart (Restarted epoch found) = Some Stops
-effect_by shares Restart reply = None
 
 -- What is in doubt after one more reply: nothing after a restart, and after a reply in doubt what its command would do.
 abbrev pub doubt_after : Option Effect → Reply → Option Effect → Option Effect

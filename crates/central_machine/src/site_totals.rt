@@ -1,13 +1,11 @@
 //! The running totals of one site.
 
-ghost use Rattle.std.specs.Prelude.{◌≡◌, ◌<◌, List, [], ◌∷◌, length, IfOk, OnOk, if◌then◌else◌, Option, Some, None};
-ghost use Rattle.field_bounds.specs.declared.effect.Effect.TheVariants.{Gives};
-ghost use Rattle.field_bounds.specs.declared.entry.Command.TheVariants.{Spare};
+ghost use Rattle.std.specs.Prelude.{◌≡◌, ◌<◌, List, [], ◌∷◌, length, IfOk, OnOk, true};
 ghost use Rattle.field_bounds.specs.declared.entry.Entry.{Entry};
-ghost use Rattle.field_bounds.specs.Effects.{says_doubt_kept, Base};
+ghost use Rattle.field_bounds.specs.Effects.{says_doubt_kept, Base, effect_by, wanted_by, spared_at};
 ghost use Rattle.field_bounds.specs.Owed.{is_up, epoch_of, count_since, is_begun_reply, is_still_down, is_unsure};
 ghost use Rattle.central_machine.specs.FieldAmounts.{amount};
-ghost use Rattle.central_machine.specs.Running.{NumbersAfter, effect_by, doubt_after, settled_effect, IsSite, PutsIn, GoesOn};
+ghost use Rattle.central_machine.specs.Running.{NumbersAfter, doubt_after, settled_effect, IsSite, PutsIn, GoesOn};
 
 use crate::amounts::FieldAmounts;
 use crate::journal::OpenSet;
@@ -16,7 +14,7 @@ use crate::ledger::SparseTotals;
 use crate::numbers::Numbers;
 use central_rules::SiteCounts;
 use field_bounds::{
-    Command, Effect, Entry, FieldNo, Kind, Last, Reply, Schema, SiteNo, by_command, spared_amount,
+    Command, Effect, Entry, Last, Reply, Schema, SiteNo, effect_of, spared_amount, wanted_by,
 };
 use std::alloc::{AllocError, Global};
 
@@ -28,54 +26,17 @@ pub struct SiteTotals {
     pub doubt: Option<Effect>,
 }
 
-/// So much of a kind on a field leaves, where it is answered so.
+/// What a spare in doubt has spared at shares.
 #[inline(always)]
-fn left(
-    answered: bool,
-    to: Option<SiteNo>,
-    field: FieldNo,
-    kind: Kind,
-    amount: u64,
-) -> Option<Effect>
-    ensures { result ≡ (if answered then Some (Gives to field kind amount) else None) }
+fn spared_in_doubt(shares: &FieldAmounts, command: Command, reply: Reply) -> u64
+    ensures { is_unsure reply ≡ true → result ≡ spared_at (amount shares.now) (wanted_by command) }
 {
-    if answered {
-        Some(Effect::Gives {
-            to,
-            field,
-            kind,
-            amount,
-        })
-    } else {
-        None
-    }
-}
-
-/// What a spare puts into effect at shares, by its reply.
-#[inline(always)]
-fn spare_by(
-    shares: &FieldAmounts,
-    to: SiteNo,
-    field: FieldNo,
-    kind: Kind,
-    want: u64,
-    reply: Reply,
-) -> Option<Effect>
-    ensures { result ≡ effect_by (amount shares.now) (Spare to field kind want) reply }
-{
-    match reply {
-        Reply::Spared { amount, .. } => left(true, Some(to), field, kind, amount),
-        Reply::Unsure => {
+    match (wanted_by(command), reply) {
+        (Some((field, kind, want)), Reply::Unsure) => {
             let share = shares.at(usize::from(field.0), kind);
-            left(
-                true,
-                Some(to),
-                field,
-                kind,
-                spared_amount(u128::from(share), want),
-            )
+            spared_amount(u128::from(share), want)
         }
-        _ => None,
+        _ => 0,
     }
 }
 
@@ -84,52 +45,7 @@ fn spare_by(
 fn effect_by(shares: &FieldAmounts, command: Command, reply: Reply) -> Option<Effect>
     ensures { result ≡ effect_by (amount shares.now) command reply }
 {
-    let unsure = matches!(reply, Reply::Unsure);
-    by_command! { command;
-        Begin => match reply {
-            Reply::Begun(txn) => Some(Effect::Begins { txn }),
-            _ => None,
-        },
-        Escrow { txn, field, change } => match reply {
-            Reply::Granted => Some(Effect::Grants { txn, field, change }),
-            _ => None,
-        },
-        Commit { txn } => if matches!(reply, Reply::Committed) || unsure {
-            Some(Effect::Commits { txn })
-        } else {
-            None
-        },
-        Abort { txn } => if matches!(reply, Reply::Aborted) {
-            Some(Effect::Aborts { txn })
-        } else {
-            None
-        },
-        Give { to, field, kind, amount } => {
-            left(matches!(reply, Reply::Given { .. }) || unsure, Some(to), field, kind, amount)
-        },
-        Restate { to, field, kind } => { let _nothing = (to, field, kind); None },
-        Spare { to, field, kind, want } => spare_by(shares, to, field, kind, want, reply),
-        Tighten { field, kind, amount } => {
-            left(matches!(reply, Reply::Tightened { .. }) || unsure, None, field, kind, amount)
-        },
-        Accept(told) => if matches!(reply, Reply::Accepted { .. }) || unsure {
-            Some(Effect::Accepts {
-                from: told.from,
-                field: told.field,
-                kind: told.kind,
-                total: told.total,
-            })
-        } else {
-            None
-        },
-        Read { field } => { let _nothing = field; None },
-        Share { field } => { let _nothing = field; None },
-        Restart => if matches!(reply, Reply::Restarted { .. }) {
-            Some(Effect::Stops)
-        } else {
-            None
-        },
-    }
+    effect_of(command, reply, spared_in_doubt(shares, command, reply))
 }
 
 pub fn settled(last: Last, doubt: Option<Effect>) -> Option<Effect>

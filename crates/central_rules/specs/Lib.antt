@@ -2,6 +2,5 @@ pub mod Entries
 pub mod Replies
 pub mod Verdict
 pub mod Fates
-pub mod Kept
 pub mod Ladder
 pub mod Here

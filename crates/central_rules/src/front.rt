@@ -1,22 +1,19 @@
 //! What the entries of a front make of one site, made afresh.
 
-ghost use Rattle.std.specs.Prelude.{◌≡◌, ◌≤◌, ◌<◌, reverse, length, IfOk, false, List, ◌∷◌, ◌+◌, int_le, nat_lt, nat_le, ◌-◌, ◌&&◌, if◌then◌else◌, Some, None, ◌≤ℤ◌, pos, ◌+ℤ◌, ◌-ℤ◌};
-ghost use Rattle.field_bounds.specs.Effects.{effects, effect_of, counts, fresh};
-ghost use Rattle.field_bounds.specs.declared.effect.Effect.{Effect};
-ghost use Rattle.field_bounds.specs.declared.effect.Effect.TheVariants.{Gives};
-ghost use Rattle.field_bounds.specs.declared.entry.Command.TheVariants.{Spare};
+ghost use Rattle.std.specs.Prelude.{◌≡◌, ◌≤◌, ◌<◌, reverse, length, IfOk, false, true, List, ◌∷◌, ◌+◌, int_le, nat_lt, nat_le, ◌-◌, ◌&&◌, if◌then◌else◌, Some, None, ◌≤ℤ◌, pos, ◌+ℤ◌, ◌-ℤ◌};
+ghost use Rattle.field_bounds.specs.Effects.{effects, effect_of, fresh, share, wanted_by, spared_at};
 ghost use Rattle.field_bounds.specs.Central.{own, sizes, at_site, committed_value, open_sizes, cuts, IsSound};
 ghost use Rattle.field_bounds.specs.Parts.{field_at};
 ghost use Rattle.field_bounds.specs.Owed.{is_up, epoch_of, count_since, is_begun_reply, is_still_down, is_unsure};
 ghost use Rattle.central_rules.specs.Entries.{most_entries};
 ghost use Rattle.central_rules.specs.Verdict.{within_bound, true_share};
 ghost use Rattle.central_rules.specs.Fates.{passes};
-ghost use Rattle.central_rules.specs.Kept.{doubt_kept_next};
 
 use crate::afresh::{Which, cut, granted_sizes, share};
 use crate::site_counts::SiteCounts;
 use field_bounds::{
-    Command, Effect, Entry, FieldNo, Kind, Last, Reply, Schema, SiteNo, by_command, spared_amount,
+    Command, Effect, Entry, FieldNo, Kind, Reply, Schema, SiteNo, counts, effect_of, spared_amount,
+    wanted_by,
 };
 use std::alloc::{AllocError, Global};
 
@@ -52,80 +49,29 @@ pub fn has(schema: &Schema, field: FieldNo) -> bool
     field.0 < schema.fields()
 }
 
-/// Whether the site's next restart among these entries says that what was in doubt is kept.
-fn is_kept(entries: &[Entry], site: SiteNo) -> bool
-    ensures { result ≡ doubt_kept_next site.0 entries.now }
-{
-    for entry in entries {
-        if entry.site.0 == site.0 {
-            if let Reply::Restarted { last, .. } = entry.reply {
-                return matches!(last, Last::Kept);
-            }
-        }
-    }
-    false
-}
-
-/// Whether what a reply answers counts, where what is in doubt was kept or not.
-fn counts(kept: bool, reply: Reply) -> bool
-    ensures { result ≡ counts kept reply }
-{
-    match reply {
-        Reply::Unsure => kept,
-        _ => true,
-    }
-}
-
-/// So much of a kind on a field leaves, where it is answered so.
-fn left(
-    answered: bool,
-    to: Option<SiteNo>,
-    field: FieldNo,
-    kind: Kind,
-    amount: u64,
-) -> Option<Effect>
-    ensures { result ≡ (if answered then Some (Gives to field kind amount) else None) }
-{
-    if answered {
-        Some(Effect::Gives {
-            to,
-            field,
-            kind,
-            amount,
-        })
-    } else {
-        None
-    }
-}
-
-/// What a spare puts into effect at its site, behind these effects, by its reply.
-fn spare_of(
+/// What a spare in doubt has spared at its site, behind these effects.
+fn spared_in_doubt(
     schema: &Schema,
     site: SiteNo,
     made: &[Effect],
-    to: SiteNo,
-    field: FieldNo,
-    kind: Kind,
-    want: u64,
+    command: Command,
     reply: Reply,
-) -> Option<Effect>
+) -> u64
     requires few { length made.now ≤ most_entries }
     requires site_in { site.0 < schema.now.sites }
-    ensures { result
-        ≡ effect_of (fresh schema.now site.0) (reverse made.now) (Spare to field kind want) reply }
+    ensures { is_unsure reply ≡ true → result
+        ≡ spared_at (λ f k. share (fresh schema.now site.0) f k (reverse made.now)) (wanted_by command) }
 {
-    match reply {
-        Reply::Spared { amount, .. } => left(true, Some(to), field, kind, amount),
-        Reply::Unsure => {
-            let amount = spared_amount(share(schema, site, made, field, kind), want);
-            left(true, Some(to), field, kind, amount)
+    match (wanted_by(command), reply) {
+        (Some((field, kind, want)), Reply::Unsure) => {
+            spared_amount(share(schema, site, made, field, kind), want)
         }
-        _ => None,
+        _ => 0,
     }
 }
 
 /// What a command puts into effect at its site, behind these effects, by its reply.
-fn effect_of(
+fn effect_here(
     schema: &Schema,
     site: SiteNo,
     made: &[Effect],
@@ -136,54 +82,11 @@ fn effect_of(
     requires site_in { site.0 < schema.now.sites }
     ensures { result ≡ effect_of (fresh schema.now site.0) (reverse made.now) command reply }
 {
-    let unsure = matches!(reply, Reply::Unsure);
-    by_command! { command;
-        Begin => match reply {
-            Reply::Begun(txn) => Some(Effect::Begins { txn }),
-            _ => None,
-        },
-        Escrow { txn, field, change } => match reply {
-            Reply::Granted => Some(Effect::Grants { txn, field, change }),
-            _ => None,
-        },
-        Commit { txn } => if matches!(reply, Reply::Committed) || unsure {
-            Some(Effect::Commits { txn })
-        } else {
-            None
-        },
-        Abort { txn } => if matches!(reply, Reply::Aborted) {
-            Some(Effect::Aborts { txn })
-        } else {
-            None
-        },
-        Give { to, field, kind, amount } => {
-            left(matches!(reply, Reply::Given { .. }) || unsure, Some(to), field, kind, amount)
-        },
-        Restate { to, field, kind } => { let _nothing = (to, field, kind); None },
-        Spare { to, field, kind, want } => {
-            spare_of(schema, site, made, to, field, kind, want, reply)
-        },
-        Tighten { field, kind, amount } => {
-            left(matches!(reply, Reply::Tightened { .. }) || unsure, None, field, kind, amount)
-        },
-        Accept(told) => if matches!(reply, Reply::Accepted { .. }) || unsure {
-            Some(Effect::Accepts {
-                from: told.from,
-                field: told.field,
-                kind: told.kind,
-                total: told.total,
-            })
-        } else {
-            None
-        },
-        Read { field } => { let _nothing = field; None },
-        Share { field } => { let _nothing = field; None },
-        Restart => if matches!(reply, Reply::Restarted { .. }) {
-            Some(Effect::Stops)
-        } else {
-            None
-        },
-    }
+    effect_of(
+        command,
+        reply,
+        spared_in_doubt(schema, site, made, command, reply),
+    )
 }
 
 /// What took effect at a site, the oldest first.
@@ -202,9 +105,9 @@ pub fn effects(
     let mut made = Vec::new(alloc);
     for (i, entry) in front.iter().enumerate() {
         if entry.site.0 == site.0 {
-            let effect = effect_of(schema, site, &made, entry.command, entry.reply);
+            let effect = effect_here(schema, site, &made, entry.command, entry.reply);
             if let Some(effect) = effect {
-                if counts(is_kept(&front[i + 1..], site), entry.reply) {
+                if counts(entry.reply, &front[i + 1..], site) {
                     made.push(effect)?;
                 }
             }

@@ -1,8 +1,9 @@
 -- One trace of all sites, as a run of one central store.
 -- A trace has the newest entry first, so that the rest of a list is the front before its head.
-use Rattle.std.specs.Prelude.{◌≡◌, ℕ, ◌+◌, ◌-◌, ◌<◌, ◌≤◌, ◌==◌, ℤ, pos, ◌+ℤ◌, ◌-ℤ◌, ◌≤ℤ◌, unsigned_abs, Bool, false, ◌&&◌, ◌||◌, if◌then◌else◌, List, [], ◌∷◌, length}
+use Rattle.std.specs.Prelude.{◌≡◌, ℕ, ◌+◌, ◌-◌, ◌<◌, ◌≤◌, ◌==◌, ℤ, pos, ◌+ℤ◌, ◌-ℤ◌, ◌≤ℤ◌, unsigned_abs, Bool, false, ◌&&◌, ◌||◌, if◌then◌else◌, List, [], ◌∷◌, length, Option, None, Some}
 use Rattle.field_bounds.specs.declared.kind.Kind.{Kind}
 use Rattle.field_bounds.specs.declared.kind.Kind.TheVariants.{Lower, Raise}
+use Rattle.field_bounds.specs.declared.id.FieldNo.{FieldNo}
 use Rattle.field_bounds.specs.declared.id.TxnId.{TxnId}
 use Rattle.field_bounds.specs.declared.entry.Command.{Command}
 use Rattle.field_bounds.specs.declared.entry.Command.TheVariants.{Begin, Escrow, Commit, Abort, Give, Restate, Spare, Tighten, Accept, Read, Share, Restart}
@@ -44,43 +45,39 @@ is_open_in schema t s txn = is_open txn (at_site schema t s)
 
 -- ---- sums over the trace
 
--- The size of an entry's escrow, if it was granted on field f, of kind k, to a transaction that passes (this project).
+-- The escrow that an entry grants: of which transaction, on which field, and its change (this project).
+abbrev pub granted : Command → Reply → Option (TxnId × FieldNo × ℤ)
+granted Begin reply = None
+granted (Escrow txn field change) Granted = Some (txn, field, change)
+granted (Escrow txn field change) reply = None
+granted (Commit txn) reply = None
+granted (Abort txn) reply = None
+granted (Give to field kind amount) reply = None
+granted (Restate to field kind) reply = None
+granted (Spare to field kind want) reply = None
+granted (Tighten field kind amount) reply = None
+granted (Accept told) reply = None
+granted (Read field) reply = None
+granted (Share field) reply = None
+granted Restart reply = None
+
+-- Its size, if it is on field f, of kind k, and of a transaction that passes (this project).
 abbrev pub size_of : (ℕ → TxnId → Bool) → ℕ → Kind → ℕ → Command → Reply → ℕ
-size_of p f k s Begin reply = 0
-size_of p f k s (Escrow txn field change) Granted =
-    if (field.0 == f) && same_kind (kind_of change) k && p s txn then unsigned_abs change else 0
-size_of p f k s (Escrow txn field change) reply = 0
-size_of p f k s (Commit txn) reply = 0
-size_of p f k s (Abort txn) reply = 0
-size_of p f k s (Give to field kind amount) reply = 0
-size_of p f k s (Restate to field kind) reply = 0
-size_of p f k s (Spare to field kind want) reply = 0
-size_of p f k s (Tighten field kind amount) reply = 0
-size_of p f k s (Accept told) reply = 0
-size_of p f k s (Read field) reply = 0
-size_of p f k s (Share field) reply = 0
-size_of p f k s Restart reply = 0
+size_of p f k s command reply =
+    elim (granted command reply) [
+      | None ↦ 0
+      | Some e ↦ if (e.1.0 == f) && same_kind (kind_of e.2) k && p s e.0 then unsigned_abs e.2 else 0
+    ]
 
 -- The sizes of all such escrows of the trace, added up (this project).
 abbrev pub sizes : (ℕ → TxnId → Bool) → ℕ → Kind → List Entry → ℕ
 sizes p f k [] = 0
 sizes p f k (e ∷ t) = size_of p f k e.site.0 e.command e.reply + sizes p f k t
 
--- The change of an entry's escrow, if it was granted on field f to a transaction that passes (this project).
+-- The change of an entry's escrow, if it is on field f and of a transaction that passes (this project).
 abbrev pub change_of : (ℕ → TxnId → Bool) → ℕ → ℕ → Command → Reply → ℤ
-change_of p f s Begin reply = pos 0
-change_of p f s (Escrow txn field change) Granted = if (field.0 == f) && p s txn then change else pos 0
-change_of p f s (Escrow txn field change) reply = pos 0
-change_of p f s (Commit txn) reply = pos 0
-change_of p f s (Abort txn) reply = pos 0
-change_of p f s (Give to field kind amount) reply = pos 0
-change_of p f s (Restate to field kind) reply = pos 0
-change_of p f s (Spare to field kind want) reply = pos 0
-change_of p f s (Tighten field kind amount) reply = pos 0
-change_of p f s (Accept told) reply = pos 0
-change_of p f s (Read field) reply = pos 0
-change_of p f s (Share field) reply = pos 0
-change_of p f s Restart reply = pos 0
+change_of p f s command reply =
+    elim (granted command reply) [ None ↦ pos 0 | Some e ↦ if (e.1.0 == f) && p s e.0 then e.2 else pos 0 ]
 
 -- The changes of all such escrows of the trace, added up (this project).
 abbrev pub changes : (ℕ → TxnId → Bool) → ℕ → List Entry → ℤ

@@ -1,8 +1,9 @@
 -- What took effect at one site, and the sums over it: fates, ledgers and rights.
 -- Lists of entries and of effects have the newest first, so that the rest of a list is what came before its head.
-use Rattle.std.specs.Prelude.{ℕ, ◌+◌, ◌-◌, ◌/◌, ◌==◌, min, max, unsigned_abs, Bool, true, false, not, Option, Some, None, ◌&&◌, ◌||◌, if◌then◌else◌, List, [], ◌∷◌, filter}
+use Rattle.std.specs.Prelude.{ℕ, ◌+◌, ◌-◌, ◌/◌, ◌==◌, min, max, unsigned_abs, nat_lt, nat_le, Bool, true, false, not, Option, Some, None, ◌&&◌, ◌||◌, if◌then◌else◌, List, [], ◌∷◌, filter}
 use Rattle.field_bounds.specs.declared.kind.Kind.{Kind}
 use Rattle.field_bounds.specs.declared.id.SiteNo.{SiteNo}
+use Rattle.field_bounds.specs.declared.id.FieldNo.{FieldNo}
 use Rattle.field_bounds.specs.declared.id.TxnId.{TxnId}
 use Rattle.field_bounds.specs.declared.effect.Effect.{Effect}
 use Rattle.field_bounds.specs.declared.effect.Effect.TheVariants.{Begins, Grants, Commits, Aborts, Gives, Accepts, Stops}
@@ -37,6 +38,10 @@ fresh schema s = record { up = true; epoch = 0; rights = part_of schema s; cut =
 -- Whether two ids name one transaction.
 abbrev pub same_txn : TxnId → TxnId → Bool
 same_txn a b = (a.epoch == b.epoch) && (a.number == b.number)
+
+-- The second is of an earlier epoch than the first, or of its epoch with a number up to its own.
+abbrev pub is_up_to : TxnId → TxnId → Bool
+is_up_to latest txn = nat_lt txn.epoch latest.epoch || ((txn.epoch == latest.epoch) && nat_le txn.number latest.number)
 
 -- ---- the fate of a transaction (O'Neil 1986: begun, and then committed, aborted or open)
 
@@ -168,35 +173,59 @@ own_rights base f k es = share base f k es + held_rights f k es
 abbrev pub spare_amount : ℕ → ℕ → ℕ
 spare_amount share want = min want ((share + 1) / 2)
 
--- What a command does where it takes effect, behind these effects: with its answer, and in doubt where its answer may be
+-- What a command does where it takes effect, at shares by field and kind: with its answer, and in doubt where its answer may be
 -- so. A spare that is in doubt has the amount that it would have been answered (this project).
+abbrev pub effect_by : (ℕ → Kind → ℕ) → Command → Reply → Option Effect
+effect_by shares Begin (Begun txn) = Some (Begins txn)
+effect_by shares Begin reply = None
+effect_by shares (Escrow txn field change) Granted = Some (Grants txn field change)
+effect_by shares (Escrow txn field change) reply = None
+effect_by shares (Commit txn) Committed = Some (Commits txn)
+effect_by shares (Commit txn) Unsure = Some (Commits txn)
+effect_by shares (Commit txn) reply = None
+effect_by shares (Abort txn) Aborted = Some (Aborts txn)
+effect_by shares (Abort txn) reply = None
+effect_by shares (Give to field kind amount) (Given total) = Some (Gives (Some to) field kind amount)
+effect_by shares (Give to field kind amount) Unsure = Some (Gives (Some to) field kind amount)
+effect_by shares (Give to field kind amount) reply = None
+effect_by shares (Restate to field kind) reply = None
+effect_by shares (Spare to field kind want) (Spared amount total) = Some (Gives (Some to) field kind amount)
+effect_by shares (Spare to field kind want) Unsure = Some (Gives (Some to) field kind (spare_amount (shares field.0 kind) want))
+effect_by shares (Spare to field kind want) reply = None
+effect_by shares (Tighten field kind amount) (Tightened total) = Some (Gives None field kind amount)
+effect_by shares (Tighten field kind amount) Unsure = Some (Gives None field kind amount)
+effect_by shares (Tighten field kind amount) reply = None
+effect_by shares (Accept told) (Accepted gain) = Some (Accepts told.from told.field told.kind told.total)
+effect_by shares (Accept told) Unsure = Some (Accepts told.from told.field told.kind told.total)
+effect_by shares (Accept told) reply = None
+effect_by shares (Read field) reply = None
+effect_by shares (Share field) reply = None
+effect_by shares Restart (Restarted epoch found) = Some Stops
+effect_by shares Restart reply = None
+
+-- The same behind these effects, by which the site has its shares.
 abbrev pub effect_of : Base → List Effect → Command → Reply → Option Effect
-effect_of base es Begin (Begun txn) = Some (Begins txn)
-effect_of base es Begin reply = None
-effect_of base es (Escrow txn field change) Granted = Some (Grants txn field change)
-effect_of base es (Escrow txn field change) reply = None
-effect_of base es (Commit txn) Committed = Some (Commits txn)
-effect_of base es (Commit txn) Unsure = Some (Commits txn)
-effect_of base es (Commit txn) reply = None
-effect_of base es (Abort txn) Aborted = Some (Aborts txn)
-effect_of base es (Abort txn) reply = None
-effect_of base es (Give to field kind amount) (Given total) = Some (Gives (Some to) field kind amount)
-effect_of base es (Give to field kind amount) Unsure = Some (Gives (Some to) field kind amount)
-effect_of base es (Give to field kind amount) reply = None
-effect_of base es (Restate to field kind) reply = None
-effect_of base es (Spare to field kind want) (Spared amount total) = Some (Gives (Some to) field kind amount)
-effect_of base es (Spare to field kind want) Unsure = Some (Gives (Some to) field kind (spare_amount (share base field.0 kind es) want))
-effect_of base es (Spare to field kind want) reply = None
-effect_of base es (Tighten field kind amount) (Tightened total) = Some (Gives None field kind amount)
-effect_of base es (Tighten field kind amount) Unsure = Some (Gives None field kind amount)
-effect_of base es (Tighten field kind amount) reply = None
-effect_of base es (Accept told) (Accepted gain) = Some (Accepts told.from told.field told.kind told.total)
-effect_of base es (Accept told) Unsure = Some (Accepts told.from told.field told.kind told.total)
-effect_of base es (Accept told) reply = None
-effect_of base es (Read field) reply = None
-effect_of base es (Share field) reply = None
-effect_of base es Restart (Restarted epoch found) = Some Stops
-effect_of base es Restart reply = None
+effect_of base es command reply = effect_by (λ f k. share base f k es) command reply
+
+-- On which field, of which kind and how much a spare wants.
+abbrev pub wanted_by : Command → Option (FieldNo × Kind × ℕ)
+wanted_by Begin = None
+wanted_by (Escrow txn field change) = None
+wanted_by (Commit txn) = None
+wanted_by (Abort txn) = None
+wanted_by (Give to field kind amount) = None
+wanted_by (Restate to field kind) = None
+wanted_by (Spare to field kind want) = Some (field, kind, want)
+wanted_by (Tighten field kind amount) = None
+wanted_by (Accept told) = None
+wanted_by (Read field) = None
+wanted_by (Share field) = None
+wanted_by Restart = None
+
+-- What is spared at shares where so much is wanted.
+abbrev pub spared_at : (ℕ → Kind → ℕ) → Option (FieldNo × Kind × ℕ) → ℕ
+spared_at shares None = 0
+spared_at shares (Some wanted) = spare_amount (shares wanted.0.0 wanted.1) wanted.2
 
 -- Whether what a reply answers counts: where it is in doubt, as it was kept, and always otherwise (this project).
 abbrev pub counts : Bool → Reply → Bool
@@ -226,3 +255,8 @@ doubt_kept_before kept r =
 abbrev pub effects : Base → Bool → List Entry → List Effect
 effects base kept [] = []
 effects base kept (e ∷ o) = after base kept e.command e.reply (effects base (doubt_kept_before kept e.reply) o)
+
+-- Whether what stands in doubt at site s before these entries, the oldest first, was kept, as its next restart found.
+abbrev pub doubt_kept_in : ℕ → List Entry → Bool
+doubt_kept_in s [] = false
+doubt_kept_in s (e ∷ later) = if e.site.0 == s then doubt_kept_before (doubt_kept_in s later) e.reply else doubt_kept_in s later

@@ -34,8 +34,7 @@ is_up base [] = base.up
 is_up base (e ∷ o) = up_after (is_up base o) e.reply
 
 abbrev pub epoch_after : ℕ → Reply → ℕ
-epoch_after epoch r =
-    elim (shape r) [ answered ↦ epoch | restarted new _ ↦ new | in_doubt ↦ epoch | stays_down ↦ epoch | refused _ ↦ epoch ]
+epoch_after n r = elim (shape r) [ answered ↦ n | restarted epoch _ ↦ epoch | in_doubt ↦ n | stays_down ↦ n | refused _ ↦ n ]
 
 -- The epoch in which a site stands: that of the last restart, or the base's (this project).
 abbrev pub epoch_of : Base → List Entry → ℕ
@@ -44,13 +43,8 @@ epoch_of base (e ∷ o) = epoch_after (epoch_of base o) e.reply
 
 abbrev pub count_after : (Reply → Bool) → ℕ → Reply → ℕ
 count_after p n r =
-    elim (shape r) [
-      | answered ↦ (if p r then 1 else 0) + n
-      | restarted _ _ ↦ 0
-      | in_doubt ↦ (if p r then 1 else 0) + n
-      | stays_down ↦ (if p r then 1 else 0) + n
-      | refused _ ↦ (if p r then 1 else 0) + n
-    ]
+    let more = (if p r then 1 else 0) + n in
+    elim (shape r) [ answered ↦ more | restarted _ _ ↦ 0 | in_doubt ↦ more | stays_down ↦ more | refused _ ↦ more ]
 
 -- The replies since the last restart that pass.
 abbrev pub count_since : (Reply → Bool) → List Entry → ℕ

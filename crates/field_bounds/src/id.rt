@@ -1,7 +1,7 @@
 //! How sites, fields and transactions are named.
 
 ghost use Rattle.std.specs.Prelude.{◌≡◌};
-ghost use Rattle.field_bounds.specs.Effects.{same_txn};
+ghost use Rattle.field_bounds.specs.Effects.{same_txn, is_up_to};
 
 /// A site of a schema by its number, from 0. A value may lie outside any schema.
 #[derive(Clone, Copy, Debug, PartialEq, Eq, PartialOrd, Ord, Hash)]
@@ -24,4 +24,13 @@ pub fn same_txn(one: TxnId, other: TxnId) -> bool
     ensures value { result ≡ same_txn one other }
 {
     one.epoch == other.epoch && one.number == other.number
+}
+
+/// Whether a transaction is of an earlier epoch than the first, or of its epoch with a number up to
+/// its own. Costs no memory.
+#[inline(always)]
+pub fn is_up_to(latest: TxnId, txn: TxnId) -> bool
+    ensures value { result ≡ is_up_to latest txn }
+{
+    txn.epoch < latest.epoch || (txn.epoch == latest.epoch && txn.number <= latest.number)
 }

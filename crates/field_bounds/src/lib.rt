@@ -2,7 +2,9 @@
 //! and the words in which sites are asked and answer.
 #![tactic(auto)]
 
+mod bounds;
 mod effect;
+mod effects;
 mod entry;
 mod fault;
 mod field;
@@ -21,12 +23,14 @@ mod spelling;
 mod statements;
 mod tighten_rows;
 
+pub use bounds::{lower_by, raise_by};
 pub use effect::Effect;
+pub use effects::{counts, effect_of, wanted_by};
 pub use entry::{Command, Entry, Escrow, Last, Refusal, Reply, Statement};
 pub use fault::SchemaFault;
 pub use field::FieldSpec;
 pub use gift_rows::{worked_flight, worked_gifts, wrong_gifts};
-pub use id::{FieldNo, SiteNo, TxnId, same_txn};
+pub use id::{FieldNo, SiteNo, TxnId, is_up_to, same_txn};
 pub use kind::Kind;
 pub use laws::{
     bounds_never_loosen, one_central_store, outcomes_lie_between, restarts_settle, share_is_exact,

@@ -8,7 +8,7 @@ use Rattle.field_bounds.specs.declared.entry.Reply.{Reply}
 use Rattle.field_bounds.specs.declared.entry.Reply.TheVariants.{Restarted}
 use Rattle.field_bounds.specs.declared.entry.Entry.{Entry}
 use Rattle.field_bounds.specs.Schema.{SchemaValue}
-use Rattle.field_bounds.specs.Effects.{fresh, after, doubt_kept_before}
+use Rattle.field_bounds.specs.Effects.{fresh, after, doubt_kept_before, doubt_kept_in}
 use Rattle.field_bounds.specs.Central.{at_site, IsSound}
 use Rattle.field_bounds.proofs.Lawful.{IsLawful}
 use Rattle.field_bounds.proofs.Traces.{own_here}
@@ -16,7 +16,7 @@ use Rattle.world_steps.specs.View.{WorldValue, trace_of}
 use Rattle.world_steps.specs.declared.step.StepReply.TheVariants.{Made}
 use Rattle.reaching_steps.specs.declared.standing.FieldHoldings.{FieldHoldings}
 use Rattle.reaching_steps.specs.FieldHoldings.{Stands}
-use Rattle.reaching_steps.specs.Told.{doubt_kept_in, ends_doubt, ReadsOwn, Puts, AllRead, AreReadIn, AllTold, Renews}
+use Rattle.reaching_steps.specs.Told.{ends_doubt, ReadsOwn, Puts, AllRead, AreReadIn, AllTold, Renews}
 use Rattle.reaching_steps.proofs.Reading.{reads_there, reads_here, reads_on, front_at}
 use Rattle.reaching_steps.proofs.Table.{told_next, made_is}
 

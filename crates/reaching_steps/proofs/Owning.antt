@@ -7,7 +7,7 @@ use Rattle.field_bounds.specs.declared.kind.Kind.TheVariants.{Lower, Raise}
 use Rattle.field_bounds.specs.Kind.{other}
 use Rattle.field_bounds.specs.declared.entry.Entry.{Entry}
 use Rattle.field_bounds.specs.Schema.{SchemaValue}
-use Rattle.field_bounds.specs.Limits.{IsSchema}
+use Rattle.field_bounds.specs.Limits.{IsSchema, max_quantity}
 use Rattle.field_bounds.specs.Parts.{sum_below, part_of, field_at}
 use Rattle.field_bounds.specs.declared.effect.Effect.{Effect}
 use Rattle.field_bounds.specs.Effects.{fresh, granted_sizes, gifts, is_to, cut, total_accepted, share, held_rights, own_rights, is_committed, is_open}
@@ -119,8 +119,8 @@ module _ (schema : SchemaValue) (good : IsSchema schema) (t : List Entry) (sound
         omega (arith, whole, small, part, all_given, gave, gone, took, good.few_sites),
       )
 
-  pub committed_near : (f : ℕ) → (neg_ℤ (pos 1_000_000_000_000_000) ≤ℤ committed_value schema t f)
-      × (committed_value schema t f ≤ℤ pos 1_000_000_000_000_000)
+  pub committed_near : (f : ℕ) → (neg_ℤ (pos max_quantity) ≤ℤ committed_value schema t f)
+      × (committed_value schema t f ≤ℤ pos max_quantity)
   committed_near f =
       let law = within_bounds schema good t sound f in
       let near = all_near schema.fields good.each f in

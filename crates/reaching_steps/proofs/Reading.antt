@@ -15,7 +15,7 @@ use Rattle.field_bounds.specs.declared.entry.Entry.{Entry}
 use Rattle.field_bounds.specs.declared.effect.Effect.{Effect}
 use Rattle.field_bounds.specs.declared.effect.Effect.TheVariants.{Gives}
 use Rattle.field_bounds.specs.Schema.{SchemaValue}
-use Rattle.field_bounds.specs.Effects.{Base, fresh, share, spare_amount, counts, effect_of, with_effect, after, doubt_kept_before, effects}
+use Rattle.field_bounds.specs.Effects.{Base, fresh, share, spare_amount, counts, effect_of, with_effect, after, doubt_kept_before, effects, doubt_kept_in, wanted_by}
 use Rattle.field_bounds.specs.Owed.{is_unsure}
 use Rattle.field_bounds.specs.Central.{own, at_site, IsSound}
 use Rattle.field_bounds.proofs.Lawful.{IsLawful}
@@ -24,7 +24,7 @@ use Rattle.field_bounds.proofs.Traces.{sound_front}
 use Rattle.reaching_steps.specs.declared.standing.FieldHoldings.{FieldHoldings}
 use Rattle.reaching_steps.specs.FieldHoldings.{Tells, Stands, Notes}
 use Rattle.reaching_steps.proofs.Standings.{notes_give}
-use Rattle.reaching_steps.specs.Told.{doubt_kept_in, wanted_by, is_elsewhere, Reads, ReadsOwn, Puts}
+use Rattle.reaching_steps.specs.Told.{is_elsewhere, Reads, ReadsOwn, Puts}
 
 -- ---- one entry of a site
 

@@ -3,13 +3,11 @@ use Rattle.std.specs.Prelude.{◌≡◌, ℕ, ◌<◌, ◌==◌, Bool, true, fal
 use Rattle.field_bounds.specs.declared.kind.Kind.{Kind}
 use Rattle.field_bounds.specs.declared.id.SiteNo.{SiteNo}
 use Rattle.field_bounds.specs.declared.id.FieldNo.{FieldNo}
-use Rattle.field_bounds.specs.declared.entry.Command.{Command}
-use Rattle.field_bounds.specs.declared.entry.Command.TheVariants.{Begin, Escrow, Commit, Abort, Give, Restate, Spare, Tighten, Accept, Read, Share, Restart}
 use Rattle.field_bounds.specs.declared.entry.Reply.{Reply}
 use Rattle.field_bounds.specs.declared.entry.Entry.{Entry}
 use Rattle.field_bounds.specs.declared.effect.Effect.{Effect}
 use Rattle.field_bounds.specs.Schema.{SchemaValue}
-use Rattle.field_bounds.specs.Effects.{Base, share, spare_amount, doubt_kept_before, effects, after, fresh, is_to, is_for_good}
+use Rattle.field_bounds.specs.Effects.{Base, doubt_kept_in, wanted_by, effects, after, fresh, is_to, is_for_good}
 use Rattle.field_bounds.specs.Central.{own, at_site}
 use Rattle.field_bounds.specs.Lawful.{IsLawful}
 use Rattle.field_bounds.specs.Shape.{answered, restarted, in_doubt, stays_down, refused, shape}
@@ -21,31 +19,6 @@ use Rattle.world_steps.specs.declared.step.StepReply.{StepReply}
 use Rattle.world_steps.specs.declared.step.StepReply.TheVariants.{Made, NoStatement}
 use Rattle.reaching_steps.specs.declared.totals.Receivers.{Receivers}
 use Rattle.reaching_steps.specs.declared.totals.Receivers.TheVariants.{OneSite, ForGood, Everyone}
-
--- Whether what stands in doubt at site s before these entries, the oldest first, was kept, as its next restart found.
-abbrev pub doubt_kept_in : ℕ → List Entry → Bool
-doubt_kept_in s [] = false
-doubt_kept_in s (e ∷ later) = if e.site.0 == s then doubt_kept_before (doubt_kept_in s later) e.reply else doubt_kept_in s later
-
--- On which field, of which kind and how much a spare wants.
-abbrev pub wanted_by : Command → Option (FieldNo × Kind × ℕ)
-wanted_by Begin = None
-wanted_by (Escrow txn field change) = None
-wanted_by (Commit txn) = None
-wanted_by (Abort txn) = None
-wanted_by (Give to field kind amount) = None
-wanted_by (Restate to field kind) = None
-wanted_by (Spare to field kind want) = Some (field, kind, want)
-wanted_by (Tighten field kind amount) = None
-wanted_by (Accept told) = None
-wanted_by (Read field) = None
-wanted_by (Share field) = None
-wanted_by Restart = None
-
--- What is spared behind these effects where so much is wanted.
-abbrev pub spared_for : Base → List Effect → Option (FieldNo × Kind × ℕ) → ℕ
-spared_for base es None = 0
-spared_for base es (Some wanted) = spare_amount (share base wanted.0.0 wanted.1 es) wanted.2
 
 -- Whether what is spared is of another field than f.
 abbrev pub is_elsewhere : ℕ → Option (FieldNo × Kind × ℕ) → Bool

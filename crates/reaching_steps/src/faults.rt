@@ -2,6 +2,7 @@
 
 ghost use Rattle.std.specs.Prelude.{◌≡◌, ◌<◌, ◌≤◌, ◌+ℤ◌, ◌-ℤ◌, ◌≤ℤ◌, neg_ℤ, pos, ℕ, Bool, IfOk, length, reverse};
 ghost use Rattle.field_bounds.specs.declared.kind.Kind.TheVariants as kinds;
+ghost use Rattle.field_bounds.specs.Limits.{max_quantity};
 ghost use Rattle.field_bounds.specs.Parts.{field_at};
 ghost use Rattle.field_bounds.specs.Effects.{fresh};
 ghost use Rattle.field_bounds.specs.Owed.{max_change};
@@ -16,7 +17,7 @@ use crate::fault::ReachFault;
 use crate::readers::number_told;
 use crate::shares::{accepted_at, given_at, guarded_at, has_cut};
 use crate::trial::Trial;
-use field_bounds::{FieldNo, Kind, MAX_NUMBER, SiteNo};
+use field_bounds::{FieldNo, Kind, MAX_NUMBER, SiteNo, lower_by, raise_by};
 use std::alloc::AllocError;
 
 /// Whether a site is down: then it tells no share of a field, which is in the schema.
@@ -201,39 +202,19 @@ fn told_outside(lo: i64, hi: i64, target: i64) -> Option<ReachFault>
     }
 }
 
-/// The low end of an interval.
-fn low_end(floor: i64, lower: u64) -> i64
-    requires near { (neg_ℤ (pos 1_000_000_000_000_000) ≤ℤ floor)
-        × (floor ≤ℤ pos 1_000_000_000_000_000) }
-    requires small { lower ≤ max_change }
-    ensures value { result ≡ floor +ℤ pos lower }
-{
-    floor + lower as i64
-}
-
-/// The high end of an interval.
-fn high_end(ceiling: i64, raise: u64) -> i64
-    requires near { (neg_ℤ (pos 1_000_000_000_000_000) ≤ℤ ceiling)
-        × (ceiling ≤ℤ pos 1_000_000_000_000_000) }
-    requires small { raise ≤ max_change }
-    ensures value { result ≡ ceiling -ℤ pos raise }
-{
-    ceiling - raise as i64
-}
-
 /// A value outside an interval.
 fn outside(floor: i64, ceiling: i64, lower: u64, raise: u64, target: i64) -> Option<ReachFault>
-    requires floor_near { (neg_ℤ (pos 1_000_000_000_000_000) ≤ℤ floor)
-        × (floor ≤ℤ pos 1_000_000_000_000_000) }
-    requires ceiling_near { (neg_ℤ (pos 1_000_000_000_000_000) ≤ℤ ceiling)
-        × (ceiling ≤ℤ pos 1_000_000_000_000_000) }
+    requires floor_near { (neg_ℤ (pos max_quantity) ≤ℤ floor)
+        × (floor ≤ℤ pos max_quantity) }
+    requires ceiling_near { (neg_ℤ (pos max_quantity) ≤ℤ ceiling)
+        × (ceiling ≤ℤ pos max_quantity) }
     requires small { (lower ≤ max_change) × (raise ≤ max_change) }
     ensures value { result ≡ fault_if (lies_outside (
       floor +ℤ pos lower,
       ceiling -ℤ pos raise,
     ) target) (faults.Outside (floor +ℤ pos lower) (ceiling -ℤ pos raise)) }
 {
-    told_outside(low_end(floor, lower), high_end(ceiling, raise), target)
+    told_outside(raise_by(floor, lower), lower_by(ceiling, raise), target)
 }
 
 /// The value lies outside the interval that the site reads.

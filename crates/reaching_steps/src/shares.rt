@@ -2,6 +2,7 @@
 
 ghost use Rattle.std.specs.Prelude.{◌≡◌, ◌≤◌, ◌<◌, ◌+◌, ◌-◌, nat_lt, ◌+ℤ◌, ◌-ℤ◌, ◌≤ℤ◌, neg_ℤ, pos, IfOk};
 ghost use Rattle.field_bounds.specs.declared.kind.Kind.TheVariants as kinds;
+ghost use Rattle.field_bounds.specs.Limits.{max_quantity};
 ghost use Rattle.field_bounds.specs.Parts.{field_at};
 ghost use Rattle.field_bounds.specs.Effects.{fresh, granted_sizes, own_rights, share, cut, is_committed};
 ghost use Rattle.field_bounds.specs.Owed.{max_change};
@@ -141,8 +142,8 @@ fn moved_at(trial: &Trial, site: SiteNo, field: FieldNo) -> Result<(u128, u128),
 fn moved_by(value: i64, up: u128, down: u128) -> i64
     requires few { (up < 1_000_000_000_000_000_000_000_000_000_000)
         × (down < 1_000_000_000_000_000_000_000_000_000_000) }
-    requires near { (neg_ℤ (pos 1_000_000_000_000_000) ≤ℤ (value +ℤ (pos up -ℤ pos down)))
-        × ((value +ℤ (pos up -ℤ pos down)) ≤ℤ pos 1_000_000_000_000_000) }
+    requires near { (neg_ℤ (pos max_quantity) ≤ℤ (value +ℤ (pos up -ℤ pos down)))
+        × ((value +ℤ (pos up -ℤ pos down)) ≤ℤ pos max_quantity) }
     ensures value { result ≡ value +ℤ (pos up -ℤ pos down) }
 {
     (i128::from(value) + (up as i128 - down as i128)) as i64
@@ -152,8 +153,8 @@ fn moved_by(value: i64, up: u128, down: u128) -> i64
 pub(crate) fn committed_at(trial: &Trial, field: FieldNo) -> Result<i64, AllocError>
     ensures value { IfOk result (λ value. value ≡ committed_value trial.now.schema
         (trace_of trial.now) field.0) }
-    ensures near { IfOk result (λ value. (neg_ℤ (pos 1_000_000_000_000_000) ≤ℤ value)
-        × (value ≤ℤ pos 1_000_000_000_000_000)) }
+    ensures near { IfOk result (λ value. (neg_ℤ (pos max_quantity) ≤ℤ value)
+        × (value ≤ℤ pos max_quantity)) }
 {
     let world = trial.world();
     let sites = world.schema().sites();

@@ -1,21 +1,20 @@
 //! What took effect at one site, read from the trace of all sites.
 
-ghost use Rattle.std.specs.Prelude.{◌≡◌, ◌<◌, ◌∷◌, IfOk, OnOk, List, true, false, length};
-ghost use Rattle.std.specs.Option.{unwrap_or};
+ghost use Rattle.std.specs.Prelude.{◌≡◌, ◌<◌, IfOk, OnOk, List, true, false, length};
 ghost use Rattle.field_bounds.specs.declared.effect.Effect.{Effect};
 ghost use Rattle.field_bounds.specs.declared.entry.Entry.{Entry};
-ghost use Rattle.field_bounds.specs.Effects.{Base, fresh, counts, effect_of};
+ghost use Rattle.field_bounds.specs.Effects.{fresh, share, wanted_by, spared_at, doubt_kept_in};
 ghost use Rattle.field_bounds.specs.Owed.{is_unsure};
 ghost use Rattle.field_bounds.specs.Central.{at_site};
 ghost use Rattle.field_bounds.specs.Lawful.{IsLawful};
 ghost use Rattle.world_steps.specs.View.{trace_of};
 ghost use Rattle.reaching_steps.specs.FieldHoldings.{Tells, Stands};
-ghost use Rattle.reaching_steps.specs.Told.{doubt_kept_in, wanted_by, spared_for, is_elsewhere, ends_doubt, Reads, ReadsOwn, Puts, AllRead};
+ghost use Rattle.reaching_steps.specs.Told.{is_elsewhere, ends_doubt, Reads, ReadsOwn, Puts, AllRead};
 
 use crate::rights::rights_of;
 use crate::standing::{FieldHoldings, note, standing_at_first};
 use field_bounds::{
-    Command, Effect, Entry, FieldNo, Kind, Last, Reply, Schema, SiteNo, spared_amount,
+    Entry, FieldNo, Reply, Schema, SiteNo, counts, effect_of, spared_amount, wanted_by,
 };
 use std::alloc::{AllocError, Global};
 use world_steps::World;
@@ -24,51 +23,7 @@ use world_steps::World;
 fn is_unsure(reply: Reply) -> bool
     ensures value { result ≡ is_unsure reply }
 {
-    match reply {
-        Reply::Unsure => true,
-        _ => false,
-    }
-}
-
-/// Whether a restart of the site found that what was in doubt is kept.
-fn found_at(entry: &Entry, site: SiteNo) -> Option<bool>
-    ensures value { (later : List Entry) → doubt_kept_in site.0 (entry.now ∷ later)
-        ≡ unwrap_or result (doubt_kept_in site.0 later) }
-{
-    if entry.site.0 != site.0 {
-        return None;
-    }
-    match entry.reply {
-        Reply::Restarted { epoch: _, last } => Some(last == Last::Kept),
-        _ => None,
-    }
-}
-
-/// Whether what stands in doubt at a site was kept, by the entries that come later.
-fn was_kept(later: &[Entry], site: SiteNo) -> bool
-    ensures value { result ≡ doubt_kept_in site.0 later.now }
-{
-    for entry in later {
-        if let Some(kept) = found_at(entry, site) {
-            return kept;
-        }
-    }
-    false
-}
-
-/// What a spare wants.
-fn wanted_by(command: Command) -> Option<(FieldNo, Kind, u64)>
-    ensures value { result ≡ wanted_by command }
-{
-    match command {
-        Command::Spare {
-            to: _,
-            field,
-            kind,
-            want,
-        } => Some((field, kind, want)),
-        _ => None,
-    }
+    matches!(reply, Reply::Unsure)
 }
 
 /// Whether what an entry spared in doubt is of another field.
@@ -101,7 +56,8 @@ fn spared_in_doubt(
         → IsLawful schema.now (fresh schema.now site.0) es → Tells field.0 standing.now es
         → is_unsure entry.now.reply ≡ true
         → is_elsewhere field.0 (wanted_by entry.now.command) ≡ false
-        → result ≡ spared_for (fresh schema.now site.0) es (wanted_by entry.now.command) }
+        → result ≡ spared_at (λ f k. share (fresh schema.now site.0) f k es)
+        (wanted_by entry.now.command) }
 {
     if !is_unsure(entry.reply) {
         return 0;
@@ -114,109 +70,6 @@ fn spared_in_doubt(
     }
     let (_, free) = rights_of(schema, standing, site, at, kind);
     spared_amount(free, want)
-}
-
-/// What a command with its reply does where it takes effect; a spare in doubt has spared so much.
-fn effect_of(command: Command, reply: Reply, amount: u64) -> Option<Effect>
-    ensures value { (base : Base) (es : List Effect)
-        → (is_unsure reply ≡ true → amount ≡ spared_for base es (wanted_by command)) →
-        result ≡ effect_of base es command reply }
-{
-    match command {
-        Command::Begin => match reply {
-            Reply::Begun(txn) => Some(Effect::Begins { txn }),
-            _ => None,
-        },
-        Command::Escrow { txn, field, change } => match reply {
-            Reply::Granted => Some(Effect::Grants { txn, field, change }),
-            _ => None,
-        },
-        Command::Commit { txn } => match reply {
-            Reply::Committed | Reply::Unsure => Some(Effect::Commits { txn }),
-            _ => None,
-        },
-        Command::Abort { txn } => match reply {
-            Reply::Aborted => Some(Effect::Aborts { txn }),
-            _ => None,
-        },
-        Command::Give {
-            to,
-            field,
-            kind,
-            amount,
-        } => match reply {
-            Reply::Given { total: _ } | Reply::Unsure => Some(Effect::Gives {
-                to: Some(to),
-                field,
-                kind,
-                amount,
-            }),
-            _ => None,
-        },
-        Command::Spare {
-            to,
-            field,
-            kind,
-            want: _,
-        } => match reply {
-            Reply::Spared { amount, total: _ } => Some(Effect::Gives {
-                to: Some(to),
-                field,
-                kind,
-                amount,
-            }),
-            Reply::Unsure => Some(Effect::Gives {
-                to: Some(to),
-                field,
-                kind,
-                amount,
-            }),
-            _ => None,
-        },
-        Command::Tighten {
-            field,
-            kind,
-            amount,
-        } => match reply {
-            Reply::Tightened { total: _ } | Reply::Unsure => Some(Effect::Gives {
-                to: None,
-                field,
-                kind,
-                amount,
-            }),
-            _ => None,
-        },
-        Command::Accept(told) => match reply {
-            Reply::Accepted { gain: _ } | Reply::Unsure => Some(Effect::Accepts {
-                from: told.from,
-                field: told.field,
-                kind: told.kind,
-                total: told.total,
-            }),
-            _ => None,
-        },
-        Command::Restart => match reply {
-            Reply::Restarted { epoch: _, last: _ } => Some(Effect::Stops),
-            _ => None,
-        },
-        Command::Restate {
-            to: _,
-            field: _,
-            kind: _,
-        }
-        | Command::Read { field: _ }
-        | Command::Share { field: _ } => None,
-    }
-}
-
-/// Whether what a reply answers counts, where the entries that come later tell of what is in doubt.
-fn counts(entry: &Entry, later: &[Entry], site: SiteNo) -> bool
-    ensures value { result ≡ counts (doubt_kept_in site.0 later.now) entry.now.reply }
-{
-    match entry.reply {
-        Reply::Unsure => was_kept(later, site),
-        _ => true,
-    }
 }
 
 /// One more entry of the site is read.
@@ -233,7 +86,7 @@ fn read_own(
     ensures read { OnOk result (ReadsOwn schema.now site.0 field.0 standing.old entry.now
         (doubt_kept_in site.0 later.now) standing.new) }
 {
-    if !counts(entry, later, site) {
+    if !counts(entry.reply, later, site) {
         return Ok(());
     }
     if is_spared_elsewhere(entry, field) {
@@ -288,10 +141,7 @@ pub(crate) fn read_there(
 pub(crate) fn ends_doubt(reply: Reply) -> bool
     ensures value { result ≡ ends_doubt reply }
 {
-    match reply {
-        Reply::Restarted { epoch: _, last: _ } => true,
-        _ => false,
-    }
+    matches!(reply, Reply::Restarted { .. })
 }
 
 /// One more entry of a site, which ends no doubt. The error is want of memory.
