@@ -12,7 +12,8 @@ use Rattle.kept_records.specs.declared.record.Record.TheVariants.{Commit, Gift, 
 use Rattle.kept_records.specs.Text.{text}
 use Rattle.kept_records.specs.Stands.{is_summary, plain}
 use Rattle.log_head.specs.declared.gone.Gone.{Gone}
-use Rattle.log_head.specs.Horizons.{HorizonValue, is_listed, is_passed, is_up_to, last_of}
+use Rattle.field_bounds.specs.Effects.{is_up_to}
+use Rattle.log_head.specs.Horizons.{HorizonValue, is_listed, is_passed, last_of}
 use Rattle.log_archives.specs.Heads.{AreGone, AreTold, TellsMore, all_may_go, bytes_told, goes_on, may_go, reaches, records_told, txn_of, were_beyond}
 
 -- ---- horizons

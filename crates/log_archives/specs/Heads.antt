@@ -7,7 +7,8 @@ use Rattle.kept_records.specs.declared.record.Record.TheVariants.{Commit, Gift, 
 use Rattle.kept_records.specs.Text.{text}
 use Rattle.kept_records.specs.Stands.{plain}
 use Rattle.log_head.specs.declared.gone.Gone.{Gone}
-use Rattle.log_head.specs.Horizons.{HorizonValue, is_passed, is_up_to, last_of}
+use Rattle.field_bounds.specs.Effects.{is_up_to}
+use Rattle.log_head.specs.Horizons.{HorizonValue, is_passed, last_of}
 
 -- How many bytes, and how many records without summaries, were let go by what is told.
 abbrev pub bytes_told : Option Gone → ℕ

@@ -1,10 +1,11 @@
 //! What heads tell, and whether a horizon goes on from another.
 
 ghost use Rattle.std.specs.Prelude.{◌≡◌};
-ghost use Rattle.log_head.specs.Horizons.{is_up_to, last_of};
+ghost use Rattle.field_bounds.specs.Effects.{is_up_to};
+ghost use Rattle.log_head.specs.Horizons.{last_of};
 ghost use Rattle.log_archives.specs.Heads.{bytes_told, records_told, goes_on, may_go, reaches, were_beyond};
 
-use field_bounds::TxnId;
+use field_bounds::{TxnId, is_up_to};
 use kept_records::Record;
 use log_head::{Gone, Horizon};
 
@@ -42,14 +43,21 @@ pub(crate) fn may_go(horizon: &Horizon, next: &Record) -> bool
     }
 }
 
+// The last transaction that a horizon may have passed.
+fn last_of(horizon: &Horizon) -> TxnId
+    ensures value { result ≡ last_of horizon.now }
+{
+    TxnId {
+        epoch: horizon.epoch(),
+        number: horizon.number(),
+    }
+}
+
 // Whether the new horizon reaches as far as the old one.
 fn is_as_far(old: &Horizon, new: &Horizon) -> bool
     ensures value { result ≡ is_up_to (last_of new.now) (last_of old.now) }
 {
-    if old.epoch() < new.epoch() {
-        return true;
-    }
-    old.epoch() == new.epoch() && old.number() <= new.number()
+    is_up_to(last_of(new), last_of(old))
 }
 
 // Whether none of these transactions of an epoch was passed by the horizon.

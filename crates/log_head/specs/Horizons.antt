@@ -3,6 +3,7 @@ use Rattle.std.specs.Prelude.{◌≡◌, ◌≤◌, ◌^◌, ℕ, ◌==◌, ◌&
 use Rattle.std.specs.List.{list_any}
 use Rattle.field_bounds.specs.declared.id.TxnId.{TxnId}
 use Rattle.field_bounds.specs.Owed.{max_open, max_number, max_epoch}
+use Rattle.field_bounds.specs.Effects.{is_up_to}
 use Rattle.log_head.specs.declared.horizon.CommitAnswer.{CommitAnswer}
 use Rattle.log_head.specs.declared.horizon.CommitAnswer.TheVariants.{Yes, No, Forgotten}
 
@@ -58,10 +59,6 @@ abbrev pub IsRight : CommitAnswer → Bool → Type 0
 IsRight Yes has_commit = has_commit ≡ true
 IsRight No has_commit = has_commit ≡ false
 IsRight Forgotten has_commit = Unit {0}
-
--- The transaction is of an earlier epoch than this one, or of its epoch with a number up to its own.
-abbrev pub is_up_to : TxnId → TxnId → Bool
-is_up_to latest txn = nat_lt txn.epoch latest.epoch || ((txn.epoch == latest.epoch) && nat_le txn.number latest.number)
 
 abbrev pub last_of : HorizonValue → TxnId
 last_of h = record { epoch = h.epoch; number = h.number }

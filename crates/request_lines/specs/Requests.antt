@@ -5,7 +5,7 @@ use Rattle.field_bounds.specs.declared.id.SiteNo.{SiteNo}
 use Rattle.field_bounds.specs.declared.id.TxnId.{TxnId}
 use Rattle.field_bounds.specs.declared.entry.Command.{Command}
 use Rattle.field_bounds.specs.declared.entry.Command.TheVariants.{Commit}
-use Rattle.site_step.specs.Shortening.{is_up_to}
+use Rattle.field_bounds.specs.Effects.{is_up_to}
 use Rattle.entry_text.specs.Spelling.{command_text, id_text}
 use Rattle.entry_text.specs.Ranges.{IdFits, CommandFits}
 use Rattle.caller_keys.specs.Keys.{IsKey}

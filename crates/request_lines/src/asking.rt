@@ -13,10 +13,9 @@ ghost use Rattle.request_lines.specs.Asking.{IsAsked, IsQuestion, AsksKey, AsksN
 
 use crate::bad_line::BadLine;
 use crate::line_fault::fault_in;
-use crate::position::is_up_to;
 use caller_keys::{Key, read_key};
 use entry_text::{MAX_LINE, read_command, read_txn};
-use field_bounds::{Command, Schema, SiteNo, TxnId};
+use field_bounds::{Command, Schema, SiteNo, TxnId, is_up_to};
 use memchr::memrchr;
 
 /// A commit with a key of its caller. Source: this project.

@@ -4,8 +4,6 @@
 mod asking;
 mod bad_line;
 mod line_fault;
-mod position;
 
 pub use asking::{KeyedCommit, Request, asked};
 pub use bad_line::{BadLine, add_bad};
-pub use position::is_up_to;

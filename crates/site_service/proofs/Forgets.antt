@@ -8,7 +8,8 @@ use Rattle.log_head.specs.declared.gone.Gone.{Gone}
 use Rattle.log_head.specs.declared.horizon.CommitAnswer.{CommitAnswer}
 use Rattle.log_head.specs.Horizons.{HorizonValue, is_passed, answer_of, IsRight}
 use Rattle.site_step.specs.Site.{SiteValue}
-use Rattle.site_step.specs.Shortening.{held_of, is_commit_of, has_commit, is_up_to}
+use Rattle.field_bounds.specs.Effects.{is_up_to}
+use Rattle.site_step.specs.Shortening.{held_of, is_commit_of, has_commit}
 use Rattle.site_service.specs.declared.key_answer.KeyAnswer.{KeyAnswer}
 use Rattle.site_service.specs.declared.key_answer.KeyAnswer.TheVariants.{No, Forgotten}
 use Rattle.site_service.specs.LetGo.{IsTold, let_go_of, commit_answer, may_be_gone, reach_of, spares_since, key_answer, HasNoneSince, IsRightOfKey}

@@ -9,9 +9,8 @@ use Rattle.log_head.specs.declared.gone.Gone.{Gone}
 use Rattle.log_head.specs.Horizons.{HorizonValue, horizon_of, is_listed, is_passed}
 use Rattle.site_service.specs.LetGo.{may_be_gone}
 use Rattle.site_service.specs.Kept.{TellsCommit}
-use Rattle.field_bounds.specs.Effects.{open_txns}
+use Rattle.field_bounds.specs.Effects.{open_txns, is_up_to}
 use Rattle.site_step.specs.Site.{SiteValue, here}
-use Rattle.site_step.specs.Shortening.{is_up_to}
 use Rattle.site_service.specs.Shorter.{txn_of, IsSpared, ListsNone, ListsOne, ListsIf, ListsOpen, ListsAllOpen}
 
 -- ---- the order of transactions

@@ -13,7 +13,8 @@ use Rattle.log_head.specs.Horizons.{HorizonValue, horizon_of, is_passed}
 use Rattle.site_step.specs.Site.{SiteValue}
 use Rattle.site_service.specs.LetGo.{may_be_gone}
 use Rattle.site_service.specs.Kept.{TellsCommit}
-use Rattle.site_step.specs.Shortening.{ShorteningValue, IsShortening, held_of, is_commit_of, has_commit, is_up_to}
+use Rattle.field_bounds.specs.Effects.{is_up_to}
+use Rattle.site_step.specs.Shortening.{ShorteningValue, IsShortening, held_of, is_commit_of, has_commit}
 use Rattle.site_service.specs.Shortening.{bytes_told, records_told, TellsMore}
 use Rattle.site_service.specs.Shorter.{txn_of, ListsNone}
 use Rattle.site_service.proofs.Spares.{up_passed}

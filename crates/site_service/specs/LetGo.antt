@@ -2,7 +2,8 @@
 use Rattle.std.specs.Prelude.{◌≡◌, Bool, true, false, if◌then◌else◌, List, [], Option, None, Some}
 use Rattle.field_bounds.specs.declared.id.TxnId.{TxnId}
 use Rattle.kept_records.specs.declared.record.Record.{Record}
-use Rattle.site_step.specs.Shortening.{has_commit, is_up_to}
+use Rattle.field_bounds.specs.Effects.{is_up_to}
+use Rattle.site_step.specs.Shortening.{has_commit}
 use Rattle.log_head.specs.declared.gone.Gone.{Gone}
 use Rattle.log_head.specs.declared.horizon.CommitAnswer.{CommitAnswer}
 use Rattle.log_head.specs.declared.horizon.CommitAnswer.TheVariants.{Yes, No}

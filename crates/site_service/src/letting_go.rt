@@ -5,18 +5,17 @@ ghost use Rattle.field_bounds.specs.declared.id.TxnId.{TxnId as Txn};
 ghost use Rattle.kept_records.specs.Keeping.{IsKept};
 ghost use Rattle.field_bounds.specs.Owed.{is_up};
 ghost use Rattle.site_step.specs.Site.{base_of};
-ghost use Rattle.site_step.specs.Shortening.{is_up_to};
+ghost use Rattle.field_bounds.specs.Effects.{is_up_to};
 ghost use Rattle.site_service.specs.Index.{IsIndexOf};
 ghost use Rattle.site_service.specs.LetGo.{may_be_gone};
 ghost use Rattle.site_service.specs.Shortening.{bytes_told, records_told};
 ghost use Rattle.site_service.specs.Shorter.{ListsIf, ListsAllOpen};
 
 use crate::kept::KeptCommits;
-use field_bounds::{Entry, MAX_OPEN, TxnId};
+use field_bounds::{Entry, MAX_OPEN, TxnId, is_up_to};
 use history::GhostHistory;
 use kept_records::MemoryMedium;
 use log_head::Gone;
-use request_lines::is_up_to;
 use site_step::Site;
 use std::alloc::{AllocError, Global};
 

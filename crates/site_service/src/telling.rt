@@ -4,9 +4,8 @@ ghost use Rattle.std.specs.Prelude.{◌≡◌};
 ghost use Rattle.site_service.specs.LetGo.{commit_answer, reach_of, spares_since, key_answer};
 
 use crate::key_answer::KeyAnswer;
-use field_bounds::TxnId;
+use field_bounds::{TxnId, is_up_to};
 use log_head::{CommitAnswer, Gone};
-use request_lines::is_up_to;
 
 /// What is answered of a transaction whose commit is held, or isn't.
 pub(crate) fn commit_answer(told: &Option<Gone>, txn: TxnId, is_held: bool) -> CommitAnswer

@@ -22,7 +22,8 @@ use Rattle.site_step.specs.declared.extent.Extent.{Extent}
 use Rattle.site_step.specs.Site.{SiteValue}
 use Rattle.site_step.specs.State.{IsSoundSite, ReachesAll}
 use Rattle.site_step.specs.Resuming.{all_bytes}
-use Rattle.site_step.specs.Shortening.{ShorteningValue, held_of, is_commit_of, has_commit, is_up_to, later_commit, latest_commit, IsShortening, CanGo, IsFrontEnd}
+use Rattle.field_bounds.specs.Effects.{is_up_to}
+use Rattle.site_step.specs.Shortening.{ShorteningValue, held_of, is_commit_of, has_commit, later_commit, latest_commit, IsShortening, CanGo, IsFrontEnd}
 use Rattle.site_step.proofs.Extents.{reach_all}
 use Rattle.site_step.proofs.Restarts.{held_log}
 use Rattle.site_step.proofs.Splits.{SplitAt, split_at, can_go, stays_enough, front_ends}

@@ -1,7 +1,8 @@
 -- What is let go and what stays where a log is shortened at a summary (this project).
-use Rattle.std.specs.Prelude.{◌≡◌, ◌≢◌, ℕ, ◌<◌, ◌≤◌, ◌==◌, ◌&&◌, ◌||◌, nat_lt, nat_le, if◌then◌else◌, Bool, true, false, List, [], ◌∷◌, ◌++◌, length, drop, fold, slice_index_or}
+use Rattle.std.specs.Prelude.{◌≡◌, ◌≢◌, ℕ, ◌<◌, ◌≤◌, ◌==◌, ◌&&◌, if◌then◌else◌, Bool, true, false, List, [], ◌∷◌, ◌++◌, length, drop, fold, slice_index_or}
 use Rattle.std.specs.List.{flat_map, list_any}
 use Rattle.field_bounds.specs.declared.id.TxnId.{TxnId}
+use Rattle.field_bounds.specs.Effects.{is_up_to}
 use Rattle.field_bounds.specs.Owed.{is_up}
 use Rattle.kept_records.specs.declared.record.Record.{Record}
 use Rattle.kept_records.specs.declared.record.Record.TheVariants.{Commit, Gift, Accept, Tighten, Restart, Summary}
@@ -35,10 +36,6 @@ is_commit_of txn (Summary epoch rights gifts accepts tightenings) = false
 
 abbrev pub has_commit : TxnId → List Record → Bool
 has_commit txn rs = list_any (is_commit_of txn) rs
-
--- The transaction is of an earlier epoch than this one, or of its epoch with a number up to its own.
-abbrev pub is_up_to : TxnId → TxnId → Bool
-is_up_to latest txn = nat_lt txn.epoch latest.epoch || ((txn.epoch == latest.epoch) && nat_le txn.number latest.number)
 
 -- The greatest transaction whose commit is among the records, and 0.0 where none is.
 abbrev pub later_commit : TxnId → Record → TxnId

@@ -6,9 +6,9 @@ ghost use Rattle.kept_records.specs.Logs.{IsLog};
 ghost use Rattle.kept_records.specs.Keeping.{IsKept};
 ghost use Rattle.kept_records.specs.ReadingBack.{IsSummaryLine};
 ghost use Rattle.kept_records.specs.Stands.{plain};
-ghost use Rattle.site_step.specs.Shortening.{is_up_to, later_commit, latest_commit, behind_line, IsInLine, NoneBetween, IsFrontEnd};
+ghost use Rattle.site_step.specs.Shortening.{later_commit, latest_commit, behind_line, IsInLine, NoneBetween, IsFrontEnd};
 
-use field_bounds::TxnId;
+use field_bounds::{TxnId, is_up_to};
 use history::Unkept;
 use kept_records::{LentRecords, Record, RecordLine, by_line, plain_count};
 use memchr::memrchr;
@@ -65,13 +65,6 @@ pub(crate) fn front_end(bytes: &[u8], keep: usize) -> Option<usize>
         further = at;
     }
     None
-}
-
-/// Whether the transaction is of an earlier epoch, or of this epoch with a number up to this one's.
-fn is_up_to(latest: TxnId, txn: TxnId) -> bool
-    ensures value { result ≡ is_up_to latest txn }
-{
-    txn.epoch < latest.epoch || (txn.epoch == latest.epoch && txn.number <= latest.number)
 }
 
 /// The greatest transaction so far, this record's commit with it, if it is one.

@@ -2,7 +2,8 @@ use Rattle.std.proofs.Common.{◌≡◌, ℕ, ◌<◌, ◌≤◌, ◌==◌, Bool
 use Rattle.std.specs.Prelude.{nat_lt, nat_le}
 use Rattle.std.proofs.lemmas.Bool.{and_parts, ltb-true, leb-true, eqb-true, lt-ltb, le-leb, eq-eqb}
 use Rattle.field_bounds.specs.declared.id.TxnId.{TxnId}
-use Rattle.log_head.specs.Horizons.{HorizonValue, is_listed, is_passed, is_up_to, last_of, IsHorizonOf, ReachesFurther}
+use Rattle.field_bounds.specs.Effects.{is_up_to}
+use Rattle.log_head.specs.Horizons.{HorizonValue, is_listed, is_passed, last_of, IsHorizonOf, ReachesFurther}
 use Rattle.log_head.proofs.laws.horizons_reach_further.Goals as goal
 
 or_parts : (a b : Bool) → (a || b) ≡ true → (a ≡ true) ⊎ (b ≡ true)

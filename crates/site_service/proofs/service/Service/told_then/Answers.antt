@@ -1,7 +1,7 @@
 use Rattle.std.proofs.Common.{◌≡◌, ℕ, ◌+◌, ◌-◌, length, Option, ap, ◌∙◌}
 use Rattle.field_bounds.specs.declared.id.TxnId.{TxnId}
 use Rattle.log_head.specs.declared.gone.Gone.{Gone}
-use Rattle.site_step.specs.Shortening.{is_up_to}
+use Rattle.field_bounds.specs.Effects.{is_up_to}
 use Rattle.site_service.specs.Answers.{site_of, held_in}
 use Rattle.site_service.specs.LetGo.{may_be_gone}
 use Rattle.site_service.specs.Service.{ServiceValue}
