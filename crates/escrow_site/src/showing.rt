@@ -1,10 +1,6 @@
 //! The command `show`.
 
-ghost use Rattle.std.specs.Prelude.{◌≡◌, ◌≤◌, ◌<◌, length, pos, neg_ℤ, ◌+ℤ◌, ◌-ℤ◌, ◌≤ℤ◌};
-ghost use Rattle.field_bounds.specs.Limits.{max_quantity};
-ghost use Rattle.field_bounds.specs.Owed.{max_change};
-ghost use Rattle.field_bounds.specs.Parts.{field_at};
-ghost use Rattle.site_rights.specs.Rights.{guarded_at};
+ghost use Rattle.std.specs.Prelude.{◌≡◌, ◌<◌, length};
 
 use field_bounds::{FieldNo, Kind, Schema, SiteNo};
 use folder_faults::Fault;
@@ -15,47 +11,13 @@ use site_rights::Rights;
 use std::io;
 use world_folders::{Paths, Shown, read_records, read_site};
 
-// A floor raised by rights.
-fn raise_by(bound: i64, by: u64) -> i64
-    requires high { bound ≤ℤ pos max_quantity }
-    requires small { by ≤ max_change }
-    ensures { result ≡ bound +ℤ pos by }
-{
-    bound + by as i64
-}
-
-// A ceiling lowered by rights.
-fn lower_by(bound: i64, by: u64) -> i64
-    requires low { neg_ℤ (pos max_quantity) ≤ℤ bound }
-    requires small { by ≤ max_change }
-    ensures { result ≡ bound -ℤ pos by }
-{
-    bound - by as i64
-}
-
-// The values between which the site knows a field to lie.
-fn interval(schema: &Schema, rights: &Rights, field: FieldNo) -> (i64, i64)
-    requires in_schema { field.0 < length schema.now.fields }
-    requires fields { length rights.now ≡ length schema.now.fields }
-    ensures lo { result.0 ≡ (field_at schema.now field.0).floor
-        +ℤ pos (guarded_at rights.now field.0 Kind.Lower) }
-    ensures hi { result.1 ≡ (field_at schema.now field.0).ceiling
-        -ℤ pos (guarded_at rights.now field.0 Kind.Raise) }
-{
-    let (floor, ceiling, _) = schema.bounds(field);
-    (
-        raise_by(floor, rights.guarded(field, Kind::Lower)),
-        lower_by(ceiling, rights.guarded(field, Kind::Raise)),
-    )
-}
-
 // Shows the rights on a field.
 fn show_rights(rt: &impl Print, schema: &Schema, rights: &Rights, field: FieldNo) -> io::Result<()>
     requires in_schema { field.0 < length schema.now.fields }
     requires fields { length rights.now ≡ length schema.now.fields }
 {
     let name = schema.name(field);
-    let (lo, hi) = interval(schema, rights, field);
+    let (lo, hi) = rights.interval(schema, field);
     let lower = rights.free(field, Kind::Lower);
     let raise = rights.free(field, Kind::Raise);
     print!(rt; "field {name} between {lo} {hi} share {lower} {raise}")?;

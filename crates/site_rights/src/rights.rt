@@ -1,12 +1,12 @@
 //! The rights of one site.
 
-ghost use Rattle.std.specs.Prelude.{◌≡◌, ◌+◌, ◌<◌, ◌≤◌, ◌↔◌, length, OnOk, IfErr, OnErr, IsOk, IfOk, All};
+ghost use Rattle.std.specs.Prelude.{◌≡◌, ◌+◌, ◌<◌, ◌≤◌, ◌↔◌, length, OnOk, IfErr, OnErr, IsOk, IfOk, All, pos, ◌+ℤ◌, ◌-ℤ◌};
 ghost use Rattle.field_bounds.specs.Owed.{max_change};
 ghost use Rattle.field_bounds.specs.Parts.{field_at, width_of};
 ghost use Rattle.site_rights.specs.Rights.{IsFresh, IsWithinWidth, free_at, held_at, own_at, cut_at, guarded_at, room_at, at_field, after_take, after_give_back, after_turn, after_drop, after_tighten, after_add, by_escrow, by_escrows, ending, CanEnd, AreFresh, AreTold, AreWithin, IsTold, AreHeld, AreInRange};
 
 use crate::field_rights::{Amounts, FieldRights, Outcome, Short};
-use field_bounds::{Escrow, FieldNo, Kind, Schema, SiteNo, both_kinds};
+use field_bounds::{Escrow, FieldNo, Kind, Schema, SiteNo, both_kinds, lower_by, raise_by};
 use std::alloc::{AllocError, Global};
 use std::marker::Model;
 
@@ -114,6 +114,25 @@ impl Rights {
     {
         let amounts = self.amounts(field, kind);
         amounts.cut + (amounts.free + amounts.held)
+    }
+
+    /// The values between which the site knows a field to lie, in units of the field: the schema's
+    /// floor raised by what the site guards of the field's width below, and its ceiling lowered by
+    /// what it guards above. Each is within -3,000,000,000,000,000 to 3,000,000,000,000,000. Costs
+    /// no memory.
+    pub fn interval(&self, schema: &Schema, field: FieldNo) -> (i64, i64)
+        requires in_schema { field.0 < length schema.now.fields }
+        requires fields { length self.now ≡ length schema.now.fields }
+        ensures lo { result.0 ≡ (field_at schema.now field.0).floor
+            +ℤ pos (guarded_at self.now field.0 Kind.Lower) }
+        ensures hi { result.1 ≡ (field_at schema.now field.0).ceiling
+            -ℤ pos (guarded_at self.now field.0 Kind.Raise) }
+    {
+        let (floor, ceiling, _) = schema.bounds(field);
+        (
+            raise_by(floor, self.guarded(field, Kind::Lower)),
+            lower_by(ceiling, self.guarded(field, Kind::Raise)),
+        )
     }
 
     /// What the site guards of both kinds leaves of the field's width: so many rights more it may

@@ -1,9 +1,8 @@
 //! What a site tells of where it stands, and the refusals of each command in their order.
 
-ghost use Rattle.std.specs.Prelude.{◌≡◌, ◌&&◌, ◌∷◌, [], ◌<◌, ◌≤◌, nat_lt, true, None, length, pos, neg_ℤ, ◌+ℤ◌, ◌-ℤ◌, ◌≤ℤ◌};
+ghost use Rattle.std.specs.Prelude.{◌≡◌, ◌&&◌, ◌∷◌, [], ◌<◌, ◌≤◌, nat_lt, true, None, length};
 ghost use Rattle.field_bounds.specs.Effects.{is_begun, is_open};
-ghost use Rattle.field_bounds.specs.Limits.{max_quantity};
-ghost use Rattle.field_bounds.specs.Owed.{max_change, count_open, count_escrows, count_since, is_begun_reply, free, guarded_rights, test_down, test_no_field, test_no_transaction, interval_at, first, refusals, is_up};
+ghost use Rattle.field_bounds.specs.Owed.{max_change, count_open, count_escrows, count_since, is_begun_reply, free, test_down, test_no_field, test_no_transaction, interval_at, first, refusals, is_up};
 ghost use Rattle.site_step.specs.Site.{here, base_of};
 
 use super::Site;
@@ -13,24 +12,6 @@ use field_bounds::{
 };
 use history::History;
 use kept_records::Medium;
-
-/// A floor raised by rights.
-fn raise_by(bound: i64, by: u64) -> i64
-    requires high { bound ≤ℤ pos max_quantity }
-    requires small { by ≤ max_change }
-    ensures { result ≡ bound +ℤ pos by }
-{
-    bound + by as i64
-}
-
-/// A ceiling lowered by rights.
-fn lower_by(bound: i64, by: u64) -> i64
-    requires low { neg_ℤ (pos max_quantity) ≤ℤ bound }
-    requires small { by ≤ max_change }
-    ensures { result ≡ bound -ℤ pos by }
-{
-    bound - by as i64
-}
 
 impl<M: Medium, H: History<Entry>> Site<M, H> {
     pub(super) fn has(&self, field: FieldNo) -> bool
@@ -77,16 +58,6 @@ impl<M: Medium, H: History<Entry>> Site<M, H> {
         ensures most { result ≤ max_change }
     {
         self.accounts.standing.rights.free(field, kind)
-    }
-
-    /// What the site owns of a kind on the field, and what it has given up of it.
-    fn guarded(&self, field: FieldNo, kind: Kind) -> u64
-        requires up { is_up (base_of self.now) self.now.history ≡ true }
-        requires field_in { field.0 < length self.now.schema.fields }
-        ensures value { result ≡ guarded_rights (here self.now) field kind }
-        ensures most { result ≤ max_change }
-    {
-        self.accounts.standing.rights.guarded(field, kind)
     }
 
     /// The first refusal of a command's ladder that holds.
@@ -162,10 +133,6 @@ impl<M: Medium, H: History<Entry>> Site<M, H> {
         requires field_in { field.0 < length self.now.schema.fields }
         ensures { result ≡ interval_at (here self.now) field }
     {
-        let (floor, ceiling, _) = self.schema.bounds(field);
-        (
-            raise_by(floor, self.guarded(field, Kind::Lower)),
-            lower_by(ceiling, self.guarded(field, Kind::Raise)),
-        )
+        self.accounts.standing.rights.interval(&self.schema, field)
     }
 }
