@@ -7,7 +7,7 @@ use Rattle.std.proofs.lemmas.List.Folds.{list_all-append}
 use Rattle.std.specs.Prelude.{◌⊎◌}
 use Rattle.std.specs.List.{list_all}
 use Rattle.field_bounds.specs.declared.entry.Command.{Command}
-use Rattle.field_bounds.specs.declared.entry.Command.TheVariants.{Begin, Escrow, Commit, Abort, Give, Restate, Spare, Tighten, Accept, Read, Share, Restart}
+use Rattle.field_bounds.specs.declared.entry.Command.TheVariants.{Begin, Restart}
 use Rattle.field_bounds.specs.declared.entry.Reply.{Reply}
 use Rattle.field_bounds.specs.declared.entry.Reply.TheVariants.{Restarted, Unsure, StillDown, Refused}
 use Rattle.field_bounds.specs.declared.entry.Entry.{Entry}
@@ -17,28 +17,15 @@ use Rattle.field_bounds.specs.Schema.{SchemaValue}
 use Rattle.field_bounds.specs.Effects.{Base, doubt_kept_before}
 use Rattle.field_bounds.specs.Owed.{Place, place, first, refusals, answer, writes, is_unsure, count_since, count_after, Fits, RestartFits, AnswerFits, IsRun}
 use Rattle.kept_records.specs.Stands.{greatest}
-use Rattle.kept_state.specs.Keeps.{record_at, record_left, adds, Tells, Keeps}
+use Rattle.kept_state.specs.Keeps.{record_left, adds, Tells, Keeps}
 use Rattle.kept_records.specs.Keeping.{is_restart as is_restart_record, starts_with_no_restart, is_record_behind}
 use Rattle.kept_state.specs.Doubt.{InDoubt}
 use Rattle.field_bounds.proofs.Refused.{match_cases, is_restart, up_there}
 use Rattle.field_bounds.proofs.Doubt.{up_none_unsure}
+use Rattle.kept_state.proofs.Adding.{one_left, left_is_own}
 
 abbrev Doubted : Bool → List Record → Type 0
 Doubted kept rs = (before : List Record) × (note : Record) × InDoubt kept before note rs
-
-pub record_is_note : (at : Place) (c : Command) → writes at c ≡ true → is_restart_record (record_at at c) ≡ false
-record_is_note at (Commit txn) w = refl
-record_is_note at (Give to field kind amount) w = refl
-record_is_note at (Spare to field kind want) w = refl
-record_is_note at (Tighten field kind amount) w = refl
-record_is_note at (Accept told) w = refl
-record_is_note at Begin w = cc
-record_is_note at (Escrow txn field change) w = cc
-record_is_note at (Abort txn) w = cc
-record_is_note at (Restate to field kind) w = cc
-record_is_note at (Read field) w = cc
-record_is_note at (Share field) w = cc
-record_is_note at Restart w = cc
 
 -- a record that was just in doubt
 pub doubt_new : (front : List Record) (note : Record) (kept : Bool) → is_restart_record note ≡ false
@@ -100,13 +87,13 @@ module _ (schema : SchemaValue) (s : ℕ) (base : Base) (o : List Entry) (front 
 
   unsure_doubts : (kept stood : Bool) (c : Command) → writes here c ≡ true → stood ≡ kept → Then kept stood c Unsure
   unsure_doubts kept stood c w is =
-      let made = doubt_new front (record_at here c) kept (record_is_note here c w) in
-      let noted_is : record_left here c ≡ record_at here c ∷ [] = ap (λ (b : Bool). cond b (record_at here c ∷ []) []) w in
+      let left = one_left here c w in
+      let made = doubt_new front left.0 kept (left_is_own here c left.1).0 in
       inr (
         front,
-        record_at here c,
-        subst (λ (b : Bool). InDoubt kept front (record_at here c) (front ++ cond b (record_left here c) [])) (sym is)
-            (subst (λ (x : List Record). InDoubt kept front (record_at here c) (front ++ cond kept x [])) (sym noted_is) made),
+        left.0,
+        subst (λ (b : Bool). InDoubt kept front left.0 (front ++ cond b (record_left here c) [])) (sym is)
+            (subst (λ (x : List Record). InDoubt kept front left.0 (front ++ cond kept x [])) (sym left.1) made),
       )
 
   answer_doubts : (c : Command) (r : Reply) (kept stood : Bool) → is_restart c ≡ false → AnswerFits here c r → Tells kept stood front r

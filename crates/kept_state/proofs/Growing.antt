@@ -16,14 +16,14 @@ use Rattle.field_bounds.specs.Schema.{SchemaValue}
 use Rattle.field_bounds.specs.Effects.{Base, says_doubt_kept}
 use Rattle.field_bounds.specs.Owed.{Place, place, answer, writes, is_up, is_unsure, count_since, count_after, TellsDoubt}
 use Rattle.kept_records.specs.Stands.{greatest}
-use Rattle.kept_state.specs.Keeps.{record_at, record_left, adds, Tells, entry_at, Keeps}
+use Rattle.kept_state.specs.Keeps.{record_left, adds, Tells, entry_at, Keeps}
 use Rattle.kept_records.specs.Keeping.{is_record_behind}
 use Rattle.kept_state.specs.Doubt.{found_of, InDoubt, IsDoubt}
 use Rattle.field_bounds.proofs.Refused.{is_restart}
 use Rattle.field_bounds.proofs.Doubt.{kept_before_answer}
-use Rattle.kept_state.proofs.Adding.{adds_answer}
+use Rattle.kept_state.proofs.Adding.{adds_answer, one_left, left_is_own}
 use Rattle.kept_state.proofs.Sure.{keeps_sure, keeps_up}
-use Rattle.kept_state.proofs.Doubt.{record_is_note, doubt_new, doubt_restart, found_is_kept}
+use Rattle.kept_state.proofs.Doubt.{doubt_new, doubt_restart, found_is_kept}
 
 -- ---- the record in doubt
 
@@ -31,13 +31,13 @@ use Rattle.kept_state.proofs.Doubt.{record_is_note, doubt_new, doubt_restart, fo
 pub doubt_unsure : (at : Place) (site : SiteNo) (c : Command) (o : List Entry) (rs : List Record) (stood : Bool) → writes at c ≡ true
     → IsDoubt stood (entry_at site c Unsure ∷ o) (rs ++ adds at c Unsure stood rs) (Some (length rs))
 doubt_unsure at site c o rs stood w =
-    let made = doubt_new rs (record_at at c) stood (record_is_note at c w) in
-    let noted_is : record_left at c ≡ record_at at c ∷ [] = ap (λ (b : Bool). cond b (record_at at c ∷ []) []) w in (
+    let left = one_left at c w in
+    let made = doubt_new rs left.0 stood (left_is_own at c left.1).0 in (
       omega arith,
       rs,
-      record_at at c,
+      left.0,
       refl,
-      subst (λ (x : List Record). InDoubt stood rs (record_at at c) (rs ++ cond stood x [])) (sym noted_is) made,
+      subst (λ (x : List Record). InDoubt stood rs left.0 (rs ++ cond stood x [])) (sym left.1) made,
     )
 
 same_doubt : (kept : Bool) (o p : List Entry) (rs more : List Record) (doubt : Option ℕ) → count_since is_unsure p ≡ count_since is_unsure o

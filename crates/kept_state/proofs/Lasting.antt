@@ -1,7 +1,8 @@
 -- What a run keeps behind lawful records is lawful.
-use Rattle.std.proofs.Common.{◌≡◌, ℕ, ◌+◌, Bool, true, false, cond, List, [], ◌∷◌, ◌++◌, refl, sym, subst, inl, inr, arith, None}
+use Rattle.std.proofs.Common.{◌≡◌, ℕ, ◌+◌, ◌≤◌, Bool, true, false, cond, List, [], ◌∷◌, ◌++◌, length, refl, sym, subst, inl, inr, arith, None}
 use Rattle.std.proofs.lemmas.Bool.{lt-ltb}
 use Rattle.std.proofs.lemmas.List.{append-nil}
+use Rattle.std.specs.List.{AllByRecursion}
 use Rattle.field_bounds.specs.declared.entry.Command.{Command}
 use Rattle.field_bounds.specs.declared.entry.Command.TheVariants.{Restart}
 use Rattle.field_bounds.specs.declared.entry.Reply.{Reply}
@@ -11,12 +12,12 @@ use Rattle.kept_records.specs.declared.record.Record.{Record}
 use Rattle.kept_records.specs.declared.record.Record.TheVariants as records
 use Rattle.field_bounds.specs.Schema.{SchemaValue}
 use Rattle.field_bounds.specs.Effects.{Base, doubt_kept_before}
-use Rattle.field_bounds.specs.Owed.{Place, place, first, refusals, writes, Fits, RestartFits, AnswerFits, IsRun}
-use Rattle.kept_records.specs.Stands.{greatest, Lawful}
+use Rattle.field_bounds.specs.Owed.{Place, place, first, refusals, Fits, RestartFits, AnswerFits, IsRun}
+use Rattle.kept_records.specs.Stands.{greatest, may_follow, Lawful}
 use Rattle.kept_records.proofs.Pushes.{lawful_push}
-use Rattle.kept_state.specs.Keeps.{IsBase, record_at, record_left, adds, Tells, Keeps}
+use Rattle.kept_state.specs.Keeps.{IsBase, record_left, adds, Tells, Keeps}
 use Rattle.field_bounds.proofs.Refused.{match_cases, is_restart}
-use Rattle.kept_state.proofs.Adding.{adds_answer}
+use Rattle.kept_state.proofs.Adding.{adds_answer, few_left}
 use Rattle.kept_state.proofs.Staying.{run_lawful_more}
 
 module _ (schema : SchemaValue) (s : ℕ) (base : Base) (bs : List Record) (is : IsBase schema s base bs) (o : List Entry)
@@ -28,16 +29,15 @@ module _ (schema : SchemaValue) (s : ℕ) (base : Base) (bs : List Record) (is :
   same_lawful : Lawful schema s (front ++ [])
   same_lawful = subst (λ (all : List Record). Lawful schema s all) (sym (append-nil front)) lawful
 
-  noted_lawful : (c : Command) → is_restart c ≡ false → first (refusals there c) ≡ None → (b : Bool) → writes there c ≡ b
-      → Lawful schema s (front ++ cond b (record_at there c ∷ []) [])
-  noted_lawful c n h true w =
-      lawful_push schema s front (record_at there c) lawful (run_lawful_more schema s base bs is kept o front run keeps c h w)
-  noted_lawful c n h false w = same_lawful
+  few_lawful : (more : List Record) → length more ≤ 1 → AllByRecursion (λ r. may_follow schema s front r ≡ true) more
+      → Lawful schema s (front ++ more)
+  few_lawful [] few each = same_lawful
+  few_lawful (r ∷ []) few each = lawful_push schema s front r lawful each.0
+  few_lawful (r ∷ q ∷ rest) few each = absurd (omega (arith, few))
 
-  stood_lawful : (c : Command) (stood : Bool) → is_restart c ≡ false → first (refusals there c) ≡ None
-      → Lawful schema s (front ++ cond stood (record_left there c) [])
-  stood_lawful c true n h = noted_lawful c n h (writes there c) refl
-  stood_lawful c false n h = same_lawful
+  stood_lawful : (c : Command) (stood : Bool) → first (refusals there c) ≡ None → Lawful schema s (front ++ cond stood (record_left there c) [])
+  stood_lawful c true h = few_lawful (record_left there c) (few_left there c) (run_lawful_more schema s base bs is kept o front run keeps c h)
+  stood_lawful c false h = same_lawful
 
   answer_lawful : (c : Command) (r : Reply) (stood : Bool) → is_restart c ≡ false → AnswerFits there c r
       → Lawful schema s (front ++ adds there c r stood front)
@@ -48,9 +48,9 @@ module _ (schema : SchemaValue) (s : ℕ) (base : Base) (bs : List Record) (is :
           | inl answered ↦
               subst (λ (x : Reply). Lawful schema s (front ++ adds there c x stood front)) (sym answered)
               (subst (λ (more : List Record). Lawful schema s (front ++ more)) (sym (adds_answer there c stood front n))
-              (stood_lawful c true n met.0))
+              (stood_lawful c true met.0))
           | inr unsure ↦ subst (λ (x : Reply). Lawful schema s (front ++ adds there c x stood front)) (sym unsure.0)
-              (stood_lawful c stood n met.0)
+              (stood_lawful c stood met.0)
         ]
       ]
 

@@ -1,5 +1,5 @@
 -- The numbers of a record that a command writes lie in the ranges of its text.
-use Rattle.std.proofs.Common.{◌≡◌, ℕ, ◌<◌, ◌≤◌, Bool, true, false, cond, List, [], ◌∷◌, ◌++◌, reverse, length, refl, sym, subst, inl, inr, arith, Some, None}
+use Rattle.std.proofs.Common.{◌≡◌, ℕ, ◌+◌, ◌<◌, ◌≤◌, Bool, true, false, cond, List, [], ◌∷◌, ◌++◌, reverse, length, refl, sym, subst, inl, inr, arith, Some, None}
 use Rattle.std.proofs.lemmas.Bool.{or_cases, ltb-true}
 use Rattle.std.proofs.lemmas.Grind.{reverse_onto}
 use Rattle.std.proofs.lemmas.List.{length-reverse}
@@ -18,12 +18,13 @@ use Rattle.field_bounds.specs.Limits.{IsSchema}
 use Rattle.field_bounds.specs.declared.effect.Effect.{Effect}
 use Rattle.field_bounds.specs.declared.effect.Effect.TheVariants.{Begins, Grants, Commits, Gives, Accepts}
 use Rattle.field_bounds.specs.Effects.{Base, after, effects, same_txn, is_begun, escrows_of}
-use Rattle.field_bounds.specs.Owed.{Place, place, first, refusals, answer, writes, epoch_of, epoch_after, count_escrows, free, spare_of, max_number, max_epoch, max_escrows, Fits, IsRun}
+use Rattle.field_bounds.specs.Owed.{Place, place, first, refusals, answer, writes, epoch_of, epoch_after, count_escrows, free, spare_of, told_so_far, cut_so_far, max_number, max_epoch, max_escrows, Fits, IsRun}
 use Rattle.kept_records.specs.Text.{IsChange, IsEscrow, IsRecord}
 use Rattle.kept_records.specs.declared.record.Record.{Record}
 use Rattle.kept_records.specs.declared.record.Record.TheVariants as records
 use Rattle.kept_records.specs.Stands.{later, greatest}
-use Rattle.kept_state.specs.Keeps.{record_at, base_of_records, IsCutWithin}
+use Rattle.kept_state.specs.Keeps.{record_left, base_of_records, IsCutWithin}
+use Rattle.kept_state.proofs.Adding.{each_if}
 use Rattle.field_bounds.proofs.Lawful.{same_txn-true}
 use Rattle.field_bounds.proofs.Sparing.{spared_is_some}
 use Rattle.field_bounds.proofs.Refused.{none_holds, match_cases, begin_has_a_number, escrow_is_in_schema, escrow_is_some, escrow_is_small, escrow_is_one_of_few, commit_is_opened, give_is_to_a_site, give_is_in_schema, give_is_some, give_has_room, spare_is_to_a_site, spare_is_in_schema, spare_is_some, spare_has_a_share, spare_has_room, tighten_is_in_schema, tighten_is_some, accept_is_from_a_site, accept_is_in_schema, accept_is_some, accept_is_small}
@@ -189,18 +190,19 @@ opened_in_range schema s false bs is = greatest_in_range bs is
 
 -- ---- records
 
--- the record of a command that writes one is in the ranges of its text
+-- the record that a command leaves is in the ranges of its text
 pub record_in_range : (schema : SchemaValue) (s : ℕ) (base : Base) (o : List Entry) → IsSchema schema → IsRun schema s base o
     → base.epoch ≤ max_epoch → (c : Command)
-    → IsCutWithin (place schema s base o) c → first (refusals (place schema s base o) c) ≡ None → writes (place schema s base o) c ≡ true
-    → IsRecord (record_at (place schema s base o) c)
-record_in_range schema s base o limits run small (Commit txn) few h w =
+    → IsCutWithin (place schema s base o) c → first (refusals (place schema s base o) c) ≡ None
+    → AllByRecursion IsRecord (record_left (place schema s base o) c)
+record_in_range schema s base o limits run small (Commit txn) few h =
     let at = place schema s base o in
     let none = none_holds (refusals at (Commit txn)) h in
     let both = commit_is_opened at txn none in
     let ranged = run_is_ranged schema s base o run false in
     let number = ranged.numbers txn both.0 in
-    let same = length-reverse (escrows_of txn at.effects) in (
+    let same = length-reverse (escrows_of txn at.effects) in
+    each_if IsRecord (writes at (Commit txn)) (records.Commit txn (reverse (escrows_of txn at.effects))) (λ w. (
       omega (arith, open_is_current schema s base o run false txn both.0 both.1, epoch_in_range schema s base o run small),
       number.0,
       number.1,
@@ -209,40 +211,38 @@ record_in_range schema s base o limits run small (Commit txn) few h w =
       each_reversed IsEscrow (escrows_of txn at.effects)
           (each_weaker (IsGrantable (length schema.fields)) IsEscrow (λ e p. (omega (arith, p.0, limits.few_fields), p.1))
           (escrows_of txn at.effects) (ranged.each txn)),
-    )
-record_in_range schema s base o limits run small (Give to field kind amount) few h w =
+    ))
+record_in_range schema s base o limits run small (Give to field kind amount) few h =
     let at = place schema s base o in
-    let none = none_holds (refusals at (Give to field kind amount)) h in (
+    let none = none_holds (refusals at (Give to field kind amount)) h in
+    each_if IsRecord true (records.Gift to field kind (told_so_far at to field kind + amount)) (λ w. (
       omega (arith, limits.few_sites, give_is_to_a_site at to field kind amount none),
       omega (arith, limits.few_fields, give_is_in_schema at to field kind amount none),
       (omega (arith, give_is_some at to field kind amount none), give_has_room at to field kind amount none),
-    )
-record_in_range schema s base o limits run small (Spare to field kind want) few h w =
+    ))
+record_in_range schema s base o limits run small (Spare to field kind want) few h =
     let at = place schema s base o in
     let none = none_holds (refusals at (Spare to field kind want)) h in
     let some = spared_is_some (free at field kind) want (spare_has_a_share at to field kind want none)
-    (spare_is_some at to field kind want none) in (
+    (spare_is_some at to field kind want none) in
+    each_if IsRecord true (records.Gift to field kind (told_so_far at to field kind + spare_of at field kind want)) (λ w. (
       omega (arith, limits.few_sites, spare_is_to_a_site at to field kind want none),
       omega (arith, limits.few_fields, spare_is_in_schema at to field kind want none),
       (omega (arith, some), spare_has_room at to field kind want none),
-    )
-record_in_range schema s base o limits run small (Tighten field kind amount) few h w =
+    ))
+record_in_range schema s base o limits run small (Tighten field kind amount) few h =
     let at = place schema s base o in
-    let none = none_holds (refusals at (Tighten field kind amount)) h in (
+    let none = none_holds (refusals at (Tighten field kind amount)) h in
+    each_if IsRecord true (records.Tighten field kind (cut_so_far at field kind + amount)) (λ w. (
       omega (arith, limits.few_fields, tighten_is_in_schema at field kind amount none),
-      (omega (arith, tighten_is_some at field kind amount none), few),
-    )
-record_in_range schema s base o limits run small (Accept told) few h w =
+      (omega (arith, tighten_is_some at field kind amount none), few field kind amount refl),
+    ))
+record_in_range schema s base o limits run small (Accept told) few h =
     let at = place schema s base o in
-    let none = none_holds (refusals at (Accept told)) h in (
+    let none = none_holds (refusals at (Accept told)) h in
+    each_if IsRecord (writes at (Accept told)) (records.Accept told.from told.field told.kind told.total) (λ w. (
       omega (arith, limits.few_sites, accept_is_from_a_site at told none),
       omega (arith, limits.few_fields, accept_is_in_schema at told none),
       (omega (arith, accept_is_some at told none), accept_is_small at told none),
-    )
-record_in_range schema s base o limits run small Begin few h w = cc
-record_in_range schema s base o limits run small (Escrow txn field change) few h w = cc
-record_in_range schema s base o limits run small (Abort txn) few h w = cc
-record_in_range schema s base o limits run small (Restate to field kind) few h w = cc
-record_in_range schema s base o limits run small (Read field) few h w = cc
-record_in_range schema s base o limits run small (Share field) few h w = cc
-record_in_range schema s base o limits run small Restart few h w = cc
+    ))
+record_in_range schema s base o limits run small c few h = tt

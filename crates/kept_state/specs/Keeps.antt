@@ -3,6 +3,7 @@
 use Rattle.std.specs.Prelude.{◌≡◌, ℕ, ◌+◌, ◌≤◌, Bool, true, false, if◌then◌else◌, List, [], ◌∷◌, ◌++◌, reverse}
 use Rattle.field_bounds.specs.declared.kind.Kind.{Kind}
 use Rattle.field_bounds.specs.declared.id.SiteNo.{SiteNo}
+use Rattle.field_bounds.specs.declared.id.FieldNo.{FieldNo}
 use Rattle.field_bounds.specs.declared.entry.Command.{Command}
 use Rattle.field_bounds.specs.declared.entry.Command.TheVariants as commands
 use Rattle.field_bounds.specs.declared.entry.Reply.{Reply}
@@ -15,41 +16,27 @@ use Rattle.kept_records.specs.declared.record.Record.{Record}
 use Rattle.kept_records.specs.declared.record.Record.TheVariants.{Commit, Gift, Accept, Tighten, Restart}
 use Rattle.kept_records.specs.Stands.{greatest, base_stood_for, gained_in, spent_in, given_in, cut_in, accepted_in}
 
--- The record of a command that is carried out where a site stands: a transaction's escrows in order of grant, the new
--- total of a gift, of a spare or of a tightening, the total of a statement. For a command that writes none there stands
--- a restart's that no site keeps.
-abbrev pub record_at : Place → Command → Record
-record_at at (commands.Commit txn) = Commit txn (reverse (escrows_of txn at.effects))
-record_at at (commands.Give to field kind amount) = Gift to field kind (told_so_far at to field kind + amount)
-record_at at (commands.Spare to field kind want) = Gift to field kind (told_so_far at to field kind + spare_of at field kind want)
-record_at at (commands.Tighten field kind amount) = Tighten field kind (cut_so_far at field kind + amount)
-record_at at (commands.Accept told) = Accept told.from told.field told.kind told.total
-record_at at commands.Begin = Restart 0
-record_at at (commands.Escrow txn field change) = Restart 0
-record_at at (commands.Abort txn) = Restart 0
-record_at at (commands.Restate to field kind) = Restart 0
-record_at at (commands.Read field) = Restart 0
-record_at at (commands.Share field) = Restart 0
-record_at at commands.Restart = Restart 0
+-- The record that a command leaves where it is carried out, in a list of one, or of none where it leaves none: a transaction's
+-- escrows in order of grant, if it has any; the new total of a gift, of a spare or of a tightening; the total of a statement
+-- that tells more than was accepted before.
+abbrev pub record_left : Place → Command → List Record
+record_left at (commands.Commit txn) = if writes at (commands.Commit txn) then Commit txn (reverse (escrows_of txn at.effects)) ∷ [] else []
+record_left at (commands.Give to field kind amount) = Gift to field kind (told_so_far at to field kind + amount) ∷ []
+record_left at (commands.Spare to field kind want) = Gift to field kind (told_so_far at to field kind + spare_of at field kind want) ∷ []
+record_left at (commands.Tighten field kind amount) = Tighten field kind (cut_so_far at field kind + amount) ∷ []
+record_left at (commands.Accept told) = if writes at (commands.Accept told) then Accept told.from told.field told.kind told.total ∷ [] else []
+record_left at commands.Begin = []
+record_left at (commands.Escrow txn field change) = []
+record_left at (commands.Abort txn) = []
+record_left at (commands.Restate to field kind) = []
+record_left at (commands.Read field) = []
+record_left at (commands.Share field) = []
+record_left at commands.Restart = []
 
 -- What a tightening would bring what was given up to lies in the range of its record. Of another command nothing is asked.
 abbrev pub IsCutWithin : Place → Command → Type 0
-IsCutWithin at (commands.Tighten field kind amount) = cut_so_far at field kind + amount ≤ max_change
-IsCutWithin at commands.Begin = Unit {0}
-IsCutWithin at (commands.Escrow txn field change) = Unit {0}
-IsCutWithin at (commands.Commit txn) = Unit {0}
-IsCutWithin at (commands.Abort txn) = Unit {0}
-IsCutWithin at (commands.Give to field kind amount) = Unit {0}
-IsCutWithin at (commands.Restate to field kind) = Unit {0}
-IsCutWithin at (commands.Spare to field kind want) = Unit {0}
-IsCutWithin at (commands.Accept told) = Unit {0}
-IsCutWithin at (commands.Read field) = Unit {0}
-IsCutWithin at (commands.Share field) = Unit {0}
-IsCutWithin at commands.Restart = Unit {0}
-
--- That record, where the command writes one.
-abbrev pub record_left : Place → Command → List Record
-record_left at command = if writes at command then record_at at command ∷ [] else []
+IsCutWithin at command =
+    (field : FieldNo) (kind : Kind) (amount : ℕ) → command ≡ commands.Tighten field kind amount → cut_so_far at field kind + amount ≤ max_change
 
 -- The records that an entry adds behind some records; stood says whether the device left a record that wasn't answered.
 abbrev pub adds : Place → Command → Reply → Bool → List Record → List Record

@@ -1,7 +1,7 @@
 -- The one reply of a step whose append goes by luck (this project). Lists have the newest first.
 use Rattle.std.specs.Prelude.{ℕ, suc, ◌+◌, ◌==◌, nat_le, Bool, true, false, ◌&&◌, if◌then◌else◌, List, [], ◌∷◌, length, Option, Some, None}
+use Rattle.std.specs.List.{flat_map}
 use Rattle.field_bounds.specs.declared.entry.Command.{Command}
-use Rattle.field_bounds.specs.declared.entry.Command.TheVariants as commands
 use Rattle.field_bounds.specs.declared.entry.Reply.{Reply}
 use Rattle.field_bounds.specs.declared.entry.Reply.TheVariants.{Restarted, Unsure, StillDown, Refused}
 use Rattle.field_bounds.specs.declared.entry.Refusal.{Refusal}
@@ -17,11 +17,11 @@ use Rattle.kept_records.specs.declared.record.Record.TheVariants.{Restart}
 use Rattle.kept_records.specs.Text.{text}
 use Rattle.kept_state.specs.declared.luck.Luck.{Luck}
 use Rattle.kept_state.specs.declared.luck.Luck.TheVariants.{Fine, Torn}
-use Rattle.kept_state.specs.Keeps.{record_at}
+use Rattle.kept_state.specs.Keeps.{record_left}
 
 -- How many bytes the record of a command has, where a site stands.
 abbrev pub record_length : Place → Command → ℕ
-record_length at command = length (text (record_at at command))
+record_length at command = length (flat_map text (record_left at command))
 
 -- How many bytes the record of a restart has.
 abbrev pub restart_length : ℕ → ℕ

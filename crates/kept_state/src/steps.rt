@@ -2,6 +2,7 @@
 //! then, and that the record may be written. Each is the contract of a function that does nothing.
 
 ghost use Rattle.std.specs.Prelude.{◌≡◌, ◌≢◌, ℕ, ◌+◌, ◌<◌, ◌≤◌, if◌then◌else◌, List, [], ◌∷◌, ◌++◌, length, Bool, true, false, Option, Some, None};
+ghost use Rattle.std.specs.List.{AllByRecursion};
 ghost use Rattle.field_bounds.specs.declared.id.SiteNo.{SiteNo};
 ghost use Rattle.field_bounds.specs.declared.entry.Last.{Last};
 ghost use Rattle.field_bounds.specs.declared.entry.Last.TheVariants.{Kept, Lost};
@@ -19,7 +20,7 @@ ghost use Rattle.kept_records.specs.declared.record.Record.{Record};
 ghost use Rattle.kept_records.specs.declared.record.Record.TheVariants as records;
 ghost use Rattle.kept_records.specs.Text.{IsRecord};
 ghost use Rattle.kept_records.specs.Stands.{greatest, may_follow, Lawful};
-ghost use Rattle.kept_state.specs.Keeps.{record_at, IsCutWithin, record_left, adds, entry_at, Keeps, IsBase};
+ghost use Rattle.kept_state.specs.Keeps.{IsCutWithin, record_left, adds, entry_at, Keeps, IsBase};
 ghost use Rattle.kept_state.specs.Doubt.{found_of, IsDoubt};
 
 /// What each reply leaves behind the records `rs` that a site's entries `o` have left. An answer
@@ -92,30 +93,30 @@ pub fn doubt_is_settled()
         IsDoubt kept o rs (Some n) → found_of (Some n) rs ≡ (if kept then Kept else Lost) }
 {}
 
-/// The record of a command that isn't refused, and that writes one, may be written: it may stand
-/// behind the records that the site's entries have left (`lawful`), and its numbers lie in the
-/// ranges of its text (`in_range`), as the site's epoch does (`epoch`), if its base's does. Of a
-/// tightening that asks that what it comes to in all lies in range, as it does over lawful records
-/// (`cut`).
+/// A command leaves one record exactly where it writes one (`written`). The record of a command
+/// that isn't refused may be written: it may stand behind the records that the site's entries have
+/// left (`lawful`), and its numbers lie in the ranges of its text (`in_range`), as the site's epoch
+/// does (`epoch`), if its base's does. Of a tightening that asks that what it comes to in all lies
+/// in range, as it does over lawful records (`cut`).
 pub fn records_may_be_written()
+    ensures written { (at : Place) (command : Command) →
+        length (record_left at command) ≡ (if writes at command then 1 else 0) }
     ensures lawful { (schema : SchemaValue) (s : ℕ) (base : Base) (bs : List Record) (kept : Bool)
         (o : List Entry) (rs : List Record) (command : Command) →
         IsBase schema s base bs → IsRun schema s base o → Keeps schema s base bs kept o rs →
         first (refusals (place schema s base o) command) ≡ None →
-        writes (place schema s base o) command ≡ true →
-        may_follow schema s rs (record_at (place schema s base o) command) ≡ true }
+        AllByRecursion (λ r. may_follow schema s rs r ≡ true)
+        (record_left (place schema s base o) command) }
     ensures in_range { (schema : SchemaValue) (s : ℕ) (base : Base) (o : List Entry)
         (command : Command) → IsSchema schema → IsRun schema s base o → base.epoch ≤ max_epoch →
         IsCutWithin (place schema s base o) command →
         first (refusals (place schema s base o) command) ≡ None →
-        writes (place schema s base o) command ≡ true →
-        IsRecord (record_at (place schema s base o) command) }
+        AllByRecursion IsRecord (record_left (place schema s base o) command) }
     ensures cut { (schema : SchemaValue) (s : ℕ) (base : Base) (bs : List Record) (kept : Bool)
         (o : List Entry) (rs : List Record) (command : Command) →
         IsSchema schema → s < schema.sites → IsBase schema s base bs → Lawful schema s bs →
         IsRun schema s base o → Keeps schema s base bs kept o rs →
         first (refusals (place schema s base o) command) ≡ None →
-        writes (place schema s base o) command ≡ true →
         IsCutWithin (place schema s base o) command }
     ensures epoch { (schema : SchemaValue) (s : ℕ) (base : Base) (o : List Entry) →
         IsRun schema s base o → base.epoch ≤ max_epoch → epoch_of base o ≤ max_epoch }

@@ -1,39 +1,22 @@
 -- A stop leaves a front of the records, which is what a front of the history leaves (this project).
-use Rattle.std.proofs.Common.{◌≡◌, refl, ℕ, ◌≤◌, Bool, true, false, cond, eqb, List, [], ◌∷◌, ◌++◌, length, take, drop, sym, ap, subst, ◌∙◌, arith, append-nil, append_assoc}
+use Rattle.std.proofs.Common.{◌≡◌, refl, ℕ, ◌≤◌, Bool, true, eqb, List, [], ◌∷◌, ◌++◌, length, take, drop, sym, ap, subst, ◌∙◌, arith, append-nil, append_assoc}
 use Rattle.std.specs.List.{flat_map, list_any, AllByRecursion}
 use Rattle.std.proofs.lemmas.List.{length-append, take-append-le, take-append-drop, take_at}
 use Rattle.field_bounds.specs.Schema.{SchemaValue}
 use Rattle.field_bounds.specs.Effects.{Base}
-use Rattle.field_bounds.specs.Owed.{Place, place, writes}
+use Rattle.field_bounds.specs.Owed.{place}
 use Rattle.field_bounds.specs.declared.entry.Entry.{Entry}
-use Rattle.field_bounds.specs.declared.entry.Command.{Command}
-use Rattle.field_bounds.specs.declared.entry.Reply.{Reply}
-use Rattle.field_bounds.specs.declared.entry.Reply.TheVariants.{Restarted, Unsure, StillDown, Refused}
 use Rattle.kept_records.specs.declared.record.Record.{Record}
 use Rattle.kept_records.specs.Text.{text, IsRecord}
 use Rattle.kept_records.specs.Logs.{HasNoLf, IsLog}
 use Rattle.kept_records.specs.Stands.{plain}
 use Rattle.kept_records.proofs.Bytes.{one_cut, has_it}
 use Rattle.kept_records.proofs.Lines.{body, body_without, begins, first_text}
-use Rattle.kept_state.specs.Keeps.{Keeps, adds, record_at, record_left}
+use Rattle.kept_state.specs.Keeps.{Keeps, adds}
+use Rattle.kept_state.proofs.Adding.{length_adds}
 use Rattle.site_step.specs.Site.{SiteValue, base_of, HoldsLog}
 use Rattle.site_step.proofs.Holding.{plain_append}
 use Rattle.site_service.specs.Stops.{KeepsFront}
-
-length_cond : (b : Bool) (r : Record) → length (cond b (r ∷ []) []) ≤ 1
-length_cond true r = omega arith
-length_cond false r = omega arith
-
-length_stood : (b : Bool) (rs : List Record) → length rs ≤ 1 → length (cond b rs []) ≤ 1
-length_stood true rs h = h
-length_stood false rs h = omega arith
-
-length_adds : (at : Place) (c : Command) (r : Reply) (stood : Bool) (front : List Record) → length (adds at c r stood front) ≤ 1
-length_adds at c (Refused x) stood front = omega arith
-length_adds at c (Restarted epoch found) stood front = omega arith
-length_adds at c StillDown stood front = length_cond stood _
-length_adds at c Unsure stood front = length_stood stood (record_left at c) (length_cond (writes at c) (record_at at c))
-length_adds at c r stood front = length_cond (writes at c) (record_at at c)
 
 -- A front that is shorter than the whole is a front of what stands before the last piece, of at most one record.
 shorter : (before piece front : List Record) (r : Record) (back : List Record) → length piece ≤ 1 → before ++ piece ≡ front ++ r ∷ back

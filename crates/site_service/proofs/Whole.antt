@@ -1,5 +1,5 @@
 -- A site over a medium that doesn't fail goes on holding whole lines, and only appends.
-use Rattle.std.proofs.Common.{◌≡◌, ℕ, ◌+◌, true, false, cond, eqb, List, [], ◌∷◌, ◌++◌, Some, refl, sym, ap, ◌∙◌, subst, append_assoc, append-nil}
+use Rattle.std.proofs.Common.{◌≡◌, ℕ, ◌+◌, eqb, List, [], ◌∷◌, ◌++◌, Some, refl, sym, ap, ◌∙◌, subst, append_assoc, append-nil}
 use Rattle.std.specs.List.{flat_map, list_any}
 use Rattle.std.proofs.lemmas.Bool.{or_parts}
 use Rattle.field_bounds.specs.Schema.{SchemaValue}
@@ -7,7 +7,7 @@ use Rattle.field_bounds.specs.declared.id.SiteNo.{SiteNo}
 use Rattle.field_bounds.specs.declared.entry.Command.{Command}
 use Rattle.field_bounds.specs.declared.entry.Reply.{Reply}
 use Rattle.field_bounds.specs.declared.entry.Reply.TheVariants.{Restarted, Unsure, StillDown, Refused}
-use Rattle.field_bounds.specs.Owed.{Place, writes}
+use Rattle.field_bounds.specs.Owed.{Place}
 use Rattle.kept_records.specs.declared.medium.Mishap.TheVariants.{Never}
 use Rattle.kept_records.specs.declared.record.Record.{Record}
 use Rattle.kept_records.specs.declared.record.Record.TheVariants as records
@@ -16,7 +16,7 @@ use Rattle.kept_records.specs.Logs.{HasNoLf, IsLog}
 use Rattle.kept_records.specs.Keeping.{IsKept}
 use Rattle.kept_records.specs.Stands.{greatest, piece, plain, Lawful}
 use Rattle.kept_records.proofs.Lines.{body}
-use Rattle.kept_state.specs.Keeps.{record_at, adds}
+use Rattle.kept_state.specs.Keeps.{record_left, adds}
 use Rattle.script_input.specs.Lines.{last_part, last_part_after}
 use Rattle.script_input.proofs.LineLemmas.{last_part_after-append, last_part-broken}
 use Rattle.site_step.specs.Site.{SiteValue, here, lines_behind, lines_of, AddsLines, Writes, Holds, Applies, Opens}
@@ -52,12 +52,14 @@ rest_is_last bytes rs rest log =
 
 -- ---- what a call leaves
 
+lines_whole : (at : Place) (rs left : List Record) → last_part (flat_map (lines_behind at rs) left) ≡ []
+lines_whole at rs [] = refl
+lines_whole at rs (r ∷ more) =
+    last_behind (lines_behind at rs r) (flat_map (lines_behind at rs) more) (texts_whole (piece at.schema at.site rs r))
+    ∙ lines_whole at rs more
+
 lines_of_whole : (at : Place) (command : Command) (rs : List Record) → last_part (lines_of at command rs) ≡ []
-lines_of_whole at command rs =
-    elim (writes at command) as (λ v. last_part (cond v (lines_behind at rs (record_at at command)) []) ≡ []) [
-      | true ↦ texts_whole (piece at.schema at.site rs (record_at at command))
-      | false ↦ refl
-    ]
+lines_of_whole at command rs = lines_whole at rs (record_left at command)
 
 adds_whole : (at : Place) (command : Command) (old new : List ℕ) (rs : List Record) → IsLog old rs [] → AddsLines at command old new
     → last_part new ≡ []

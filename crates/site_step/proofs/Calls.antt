@@ -39,7 +39,8 @@ use Rattle.kept_records.proofs.Summaries.{plain_lawful}
 use Rattle.std.specs.List.{flat_map, AllByRecursion}
 use Rattle.field_bounds.specs.Limits.{IsSchema}
 use Rattle.log_replay.specs.Resuming.{MayFollowNext}
-use Rattle.kept_state.specs.Keeps.{record_at}
+use Rattle.kept_state.specs.Keeps.{record_left}
+use Rattle.kept_state.proofs.Adding.{of_one, left_is_own}
 use Rattle.kept_records.specs.ReadingBack.{PartsAt, AreBehind}
 use Rattle.kept_state.proofs.Written.{written_in_range}
 use Rattle.log_replay.specs.declared.standing.Standing.{Standing}
@@ -60,7 +61,7 @@ use Rattle.site_step.proofs.Settling.{carried_no_restart}
 use Rattle.site_step.proofs.Standing.{next_is, next_is_closed, room_by, opened_by, few_by, enough_by, end_opened, escrows_are, stands_open, stands_begin, stands_grant, can_settle, stands_settled, can_carry, stands_carried}
 use Rattle.site_step.proofs.Ends.{Ends, ends_refused, ends_answered, few_records}
 use Rattle.site_step.proofs.Resumes.{stands_next, due_here}
-use Rattle.site_step.proofs.Writes.{record_is_plain, reached, may, lines_fit, is_there, ends_wrote, ends_unsure}
+use Rattle.site_step.proofs.Writes.{reached, may, lines_fit, is_there, ends_wrote, ends_unsure}
 use Rattle.site_step.proofs.Extents.{reach_seam}
 use Rattle.site_step.proofs.Restarts.{held_log, ends_failed, ends_full, few_behind, ends_restarted}
 
@@ -72,9 +73,6 @@ module _ {v w : SiteValue} {up : Bool} {extent : Extent} {a : SiteAccounts} (was
   -- what is known of the site as its callers see it, told of the site as it is kept
   none_of : (c : Command) → first (refusals (here w) c) ≡ None → first (refusals (here v) c) ≡ None
   none_of c none = subst (λ (x : SiteValue). first (refusals (here x) c) ≡ None) (sym is) none
-
-  told_of : (c : Command) → writes (here w) c ≡ true → writes (here v) c ≡ true
-  told_of c told = subst (λ (x : SiteValue). writes (here x) c ≡ true) (sym is) told
 
   -- what a call leaves, told of the site as its callers see it
   returned : (c : Command) (r : Reply) (x : SiteValue) (u : Bool) (n : Extent) (b : SiteAccounts) → Ends v c r x u n b → Ends w c r x u n b
@@ -207,104 +205,94 @@ module _ {v w : SiteValue} {up : Bool} {extent : Extent} {a : SiteAccounts} (was
         plain_fewer based,
       )
 
-  module _ (c : Command) (none : first (refusals (here w) c) ≡ None) (told : writes (here w) c ≡ true) where
+  module _ (c : Command) (none : first (refusals (here w) c) ≡ None) {kept : Record} (kept_is : record_left (here w) c ≡ kept ∷ []) where
     abbrev unrefused : first (refusals (here v) c) ≡ None
     unrefused = none_of c none
 
-    abbrev writing : writes (here v) c ≡ true
-    writing = told_of c told
+    noted : record_left (here v) c ≡ kept ∷ []
+    noted = subst (λ (x : SiteValue). record_left (here x) c ≡ kept ∷ []) (sym is) kept_is
 
-    fits : IsRecord (record_at (here v) c)
-    fits =
-        written_in_range v.schema v.site.0 (base_of v) (plain v.based) was.ground.is_base was.ground.based_on was.kept v.history
+    pub record_fits : IsRecord kept
+    record_fits =
+        of_one IsRecord noted
+        (written_in_range v.schema v.site.0 (base_of v) (plain v.based) was.ground.is_base was.ground.based_on was.kept v.history
         (plain was.records) was.ground.limits was.ground.site_in was.run was.keeps c
-        was.ground.epoch_in unrefused writing
+        was.ground.epoch_in unrefused)
 
-    pub record_fits : {kept : Record} → kept ≡ record_at (here w) c → IsRecord kept
-    record_fits kept_is = subst (λ (r : Record). IsRecord r) (sym kept_is)
-        (subst (λ (x : SiteValue). IsRecord (record_at (here x) c)) is fits)
-
-    pub record_plain : {kept : Record} → kept ≡ record_at (here w) c → is_summary kept ≡ false
-    record_plain kept_is = ap is_summary kept_is ∙ record_is_plain (here w) c
+    pub record_plain : is_summary kept ≡ false
+    record_plain = (left_is_own (here v) c noted).1
 
     there_now : is_up (base_of v) v.history ≡ true
-    there_now = is_there v up extent a was c unrefused writing fits
+    there_now = is_there v up extent a was c unrefused kept noted record_fits
 
-    may_now : may_follow v.schema v.site.0 was.records (record_at (here v) c) ≡ true
-    may_now = may v up extent a was c unrefused writing fits
+    may_now : may_follow v.schema v.site.0 was.records kept ≡ true
+    may_now = may v up extent a was c unrefused kept noted record_fits
 
-    same_record : {kept : Record} → kept ≡ record_at (here w) c → kept ≡ record_at (here v) c
-    same_record {kept = kept} kept_is = subst (λ (x : SiteValue). kept ≡ record_at (here x) c) (sym is) kept_is
-
-    pub can_write : {kept : Record} → kept ≡ record_at (here w) c → CanCarry v.schema a kept
-    can_write kept_is =
-        subst (λ (r : Record). CanCarry v.schema a r) (sym (same_record kept_is))
+    pub can_write : CanCarry v.schema a kept
+    can_write =
+        of_one (λ (r : Record). may_follow v.schema v.site.0 was.records r ≡ true → CanCarry v.schema a r) noted
         (can_carry v.schema v.site.0 (base_of v) v.history a was.run (read there_now) was.records
-        (was.stands there_now) was.lawful c unrefused writing may_now)
+        (was.stands there_now) was.lawful c unrefused) may_now
 
     -- the summary that is due
-    next : {kept : Record} → kept ≡ record_at (here w) c → MayFollowNext v.schema a.standing was.records kept
-    next kept_is =
-        subst (λ (r : Record). MayFollowNext v.schema a.standing was.records r) (sym (same_record kept_is))
-        (stands_next v.schema a.standing v.site.0 was.records (record_at (here v) c) was.ground.site_in was.log.each was.lawful
-        (was.stands there_now).standing may_now)
+    next : MayFollowNext v.schema a.standing was.records kept
+    next =
+        stands_next v.schema a.standing v.site.0 was.records kept was.ground.site_in was.log.each was.lawful
+        (was.stands there_now).standing may_now
 
-    pub can_due : {kept : Record} → kept ≡ record_at (here w) c → (rs : List Record) × MayFollowNext v.schema a.standing rs kept
-    can_due kept_is = (was.records, next kept_is)
+    pub can_due : (rs : List Record) × MayFollowNext v.schema a.standing rs kept
+    can_due = (was.records, next)
 
-    due_now : (kept : Record) (due : Option SummaryValue) → kept ≡ record_at (here w) c
+    due_now : (due : Option SummaryValue)
         → ((rs : List Record) → MayFollowNext v.schema a.standing rs kept → extent.behind ≡ since_summary rs
         → with_due kept due ≡ piece v.schema a.standing.ledger.site rs kept)
         → with_due kept due ≡ piece v.schema v.site.0 was.records kept
-    due_now kept due kept_is told_ =
+    due_now due told_ =
         due_here v.schema a.standing v.site.0 was.records kept due (was.stands there_now).standing
-        (told_ was.records (next kept_is) (reached v up extent a was c unrefused writing fits).behind)
+        (told_ was.records next (reached v up extent a was c unrefused kept noted record_fits).behind)
 
-    pub due_is : (kept : Record) (due : Option SummaryValue) → kept ≡ record_at (here w) c
+    pub due_is : (due : Option SummaryValue)
         → ((rs : List Record) → MayFollowNext v.schema a.standing rs kept → extent.behind ≡ since_summary rs
         → with_due kept due ≡ piece v.schema a.standing.ledger.site rs kept)
         → (rs : List Record) (rest : List ℕ) → IsLog w.bytes rs rest → with_due kept due ≡ piece w.schema w.site.0 rs kept
-    due_is kept due kept_is told_ rs rest log =
+    due_is due told_ rs rest log =
         let same = (same_log v.bytes was.records rs was.rest rest was.log (subst (λ (x : SiteValue). IsLog x.bytes rs rest) (sym is) log)).0
         in
-        due_now kept due kept_is told_ ∙ ap (λ (x : List Record). piece v.schema v.site.0 x kept) same
+        due_now due told_ ∙ ap (λ (x : List Record). piece v.schema v.site.0 x kept) same
         ∙ ap (λ (x : SiteValue). piece x.schema x.site.0 rs kept) is
 
-    pub due_fits : (kept : Record) (due : Option SummaryValue) → kept ≡ record_at (here w) c
+    pub due_fits : (due : Option SummaryValue)
         → ((rs : List Record) → MayFollowNext v.schema a.standing rs kept → extent.behind ≡ since_summary rs
         → with_due kept due ≡ piece v.schema a.standing.ledger.site rs kept)
         → AllByRecursion IsRecord (with_due kept due)
-    due_fits kept due kept_is told_ =
-        subst (λ (ps : List Record). AllByRecursion IsRecord ps)
-        (sym (due_now kept due kept_is told_ ∙ ap (λ (r : Record). piece v.schema v.site.0 was.records r) (same_record kept_is)))
-        (lines_fit v up extent a was c unrefused writing fits)
+    due_fits due told_ =
+        subst (λ (ps : List Record). AllByRecursion IsRecord ps) (sym (due_now due told_))
+        (lines_fit v up extent a was c unrefused kept noted record_fits)
 
     -- where none is due, the record is all that is appended
-    pub none_due : (kept : Record) → nat_le max_behind (extent.behind + 1) ≡ false
+    pub none_due : nat_le max_behind (extent.behind + 1) ≡ false
         → (rs : List Record) (rest : List ℕ) → IsLog v.bytes rs rest → with_due kept None ≡ piece v.schema v.site.0 rs kept
-    none_due kept off rs rest log =
+    none_due off rs rest log =
         let same = (same_log v.bytes was.records rs was.rest rest was.log log).0 in
-        let behind : extent.behind ≡ since_summary rs = (reached v up extent a was c unrefused writing fits).behind ∙ ap since_summary same in
+        let behind : extent.behind ≡ since_summary rs = (reached v up extent a was c unrefused kept noted record_fits).behind ∙ ap since_summary same in
         let none_now : nat_le max_behind (since_summary rs + 1) ≡ false = ap (λ (n : ℕ). nat_le max_behind (n + 1)) (sym behind) ∙ off in
         rw none_now refl
 
     -- the lines that are appended
-    lines_are : (kept : Record) (due : Option SummaryValue) → kept ≡ record_at (here w) c
+    lines_are : (due : Option SummaryValue)
         → ((rs : List Record) (rest : List ℕ) → IsLog v.bytes rs rest → with_due kept due ≡ piece v.schema v.site.0 rs kept)
-        → flat_map text (with_due kept due) ≡ flat_map text (piece v.schema v.site.0 was.records (record_at (here v) c))
-    lines_are kept due kept_is told_ =
-        ap (flat_map text) (told_ was.records was.rest was.log
-        ∙ ap (λ (r : Record). piece v.schema v.site.0 was.records r) (same_record kept_is))
+        → flat_map text (with_due kept due) ≡ flat_map text (piece v.schema v.site.0 was.records kept)
+    lines_are due told_ = ap (flat_map text) (told_ was.records was.rest was.log)
 
     pub few_written : (past based : List Record) (e : Extent) → extent ≡ counted_from (length (plain past)) e → v.based ≡ past ++ based
         → e.count ≤ length based + length v.history
     few_written past based e counted parts =
-        few_counted past based e counted parts (omega (arith, (reached v up extent a was c unrefused writing fits).count, few_records v up extent a was))
+        few_counted past based e counted parts (omega (arith, (reached v up extent a was c unrefused kept noted record_fits).count, few_records v up extent a was))
 
-    pub wrote : (r : Reply) (kept : Record) (due : Option SummaryValue) (old : List ℕ) {h : List Entry} {b : SiteAccounts} {bytes : List ℕ} {failed : ℕ}
+    pub wrote : (r : Reply) (due : Option SummaryValue) (old : List ℕ) {h : List Entry} {b : SiteAccounts} {bytes : List ℕ} {failed : ℕ}
         {left : Option Mishap} {size : ℕ} {later : Extent}
         → v.bytes ≡ all_bytes v.gone old
-        → kept ≡ record_at (here w) c → r ≡ answer (here w) c
+        → r ≡ answer (here w) c
         → ((rs : List Record) (rest : List ℕ) → IsLog v.bytes rs rest → with_due kept due ≡ piece v.schema v.site.0 rs kept)
         → TakesIn v.schema (before_taking_in a kept).standing kept true b.standing → b.journal ≡ (before_taking_in a kept).journal
         → b.last ≡ a.last
@@ -312,10 +300,9 @@ module _ {v w : SiteValue} {up : Bool} {extent : Extent} {a : SiteAccounts} (was
         → AppendFate {E = Device} v.foretold old (flat_map text (with_due kept due)) (Ok tt) bytes left
         → h ≡ entry_of v c r ∷ v.history → size ≡ length (flat_map text (with_due kept due)) → later ≡ one_record_longer extent size
         → Ends w c r (Then h (all_bytes v.gone bytes) failed left v.doubt) up later b
-    wrote r kept due old {h = h} {b = b} {bytes = bytes} {failed = failed} {left = left} {size = size} {later =
-        later} whole kept_is owed told_ took open_ last_is added fate past long more =
-        let same = same_record kept_is in
-        let lines = lines_are kept due kept_is told_ in
+    wrote r due old {h = h} {b = b} {bytes = bytes} {failed = failed} {left = left} {size = size} {later =
+        later} whole owed told_ took open_ last_is added fate past long more =
+        let lines = lines_are due told_ in
         let new : List ℕ = all_bytes v.gone bytes in
         let line = subst (λ (x : List ℕ). Appends {T = Unit {0}} {E = Device} (Ok tt) v.bytes x new v.failed failed) lines
         (subst (λ (x : List ℕ). Appends {T = Unit {0}} {E = Device} (Ok tt) x (flat_map text (with_due kept due)) new v.failed failed)
@@ -324,35 +311,35 @@ module _ {v w : SiteValue} {up : Bool} {extent : Extent} {a : SiteAccounts} (was
         returned c r (Then h new failed left v.doubt) up later b
         (subst (λ (e : Extent). Ends v c r (Then h new failed left v.doubt) up e b)
         (sym (more ∙ ap (one_record_longer extent) (long ∙ ap length lines)))
-        (ends_wrote v up extent a was c unrefused writing fits b new failed left r h
+        (ends_wrote v up extent a was c unrefused kept noted record_fits b new failed left r h
         (subst (λ (x : SiteValue). r ≡ answer (here x) c) (sym is) owed) past
+        (of_one (λ (x : Record). TakesIn v.schema (before_taking_in a x).standing x true b.standing
+        → b.journal ≡ (before_taking_in a x).journal → b.last ≡ a.last
+        → StandsOn v.schema v.site.0 (base_of v) (entry_of v c (answer (here v) c) ∷ v.history) (was.records ++ x ∷ []) b) noted
         (stands_carried v.schema v.site.0 (base_of v) v.history a was.run (read there_now) was.records
-        (was.stands there_now) was.lawful v.site c unrefused writing b
-        (subst (λ (x : Record). TakesIn v.schema (before_taking_in a x).standing x true b.standing) same took)
-        (subst (λ (x : Record). b.journal ≡ (before_taking_in a x).journal) same open_) last_is) line.0 line.1
+        (was.stands there_now) was.lawful v.site c unrefused b) took open_ last_is) line.0 line.1
         (subst (λ (x : List ℕ). AppendFate {E = Device} v.foretold v.bytes x (Ok tt) new left) lines
         (subst (λ (x : List ℕ). AppendFate {E = Device} v.foretold x (flat_map text (with_due kept due)) (Ok tt) new left) (sym whole)
         (append_fate_behind (flat_map text v.gone) {E = Device} v.foretold old (flat_map text (with_due kept due)) (Ok tt) bytes left
         fate)))))
 
-    pub unsure : (kept : Record) (due : Option SummaryValue)
+    pub unsure : (due : Option SummaryValue)
         (device : Device) (old : List ℕ) {h : List Entry} {bytes : List ℕ} {failed : ℕ} {left : Option Mishap}
         → v.bytes ≡ all_bytes v.gone old
-        → kept ≡ record_at (here w) c
         → ((rs : List Record) (rest : List ℕ) → IsLog v.bytes rs rest → with_due kept due ≡ piece v.schema v.site.0 rs kept)
         → Appends {T = Unit {0}} (Err device) old (flat_map text (with_due kept due)) bytes v.failed failed
         → AppendFate v.foretold old (flat_map text (with_due kept due)) (Err device) bytes left
         → h ≡ entry_of v c Unsure ∷ v.history
         → Ends w c Unsure (Then h (all_bytes v.gone bytes) failed left (Some extent.count)) false extent a
-    unsure kept due device old {h = h} {bytes = bytes} {failed = failed} {left = left} whole kept_is told_ added fate past =
-        let lines = lines_are kept due kept_is told_ in
+    unsure due device old {h = h} {bytes = bytes} {failed = failed} {left = left} whole told_ added fate past =
+        let lines = lines_are due told_ in
         let new : List ℕ = all_bytes v.gone bytes in
         let line = subst (λ (x : List ℕ). Appends {T = Unit {0}} (Err device) v.bytes x new v.failed failed) lines
         (subst (λ (x : List ℕ). Appends {T = Unit {0}} (Err device) x (flat_map text (with_due kept due)) new v.failed failed) (sym whole)
         (appends_behind (flat_map text v.gone) {T = Unit {0}} (Err device) old (flat_map text (with_due kept due)) bytes v.failed failed
         added)) in
         returned c Unsure (Then h new failed left (Some extent.count)) false extent a
-        (ends_unsure v up extent a was c unrefused writing fits a new failed left device Unsure h refl past line.0 line.1
+        (ends_unsure v up extent a was c unrefused kept noted record_fits a new failed left device Unsure h refl past line.0 line.1
         (subst (λ (x : List ℕ). AppendFate v.foretold v.bytes x (Err device) new left) lines
         (subst (λ (x : List ℕ). AppendFate v.foretold x (flat_map text (with_due kept due)) (Err device) new left) (sym whole)
         (append_fate_behind (flat_map text v.gone) v.foretold old (flat_map text (with_due kept due)) (Err device) bytes left fate))))

@@ -1,5 +1,5 @@
 -- What a commit with escrows needs and leaves, whose record is written from the escrows where they stand.
-use Rattle.std.proofs.Common.{◌≡◌, ◌≤◌, ◌<◌, ℕ, ◌+◌, Bool, true, false, List, [], ◌∷◌, ◌++◌, length, refl, sym, ap, subst, ◌∙◌, Option, Some, None}
+use Rattle.std.proofs.Common.{◌≡◌, ◌≤◌, ◌<◌, ℕ, ◌+◌, Bool, true, false, List, [], ◌∷◌, ◌++◌, reverse, length, refl, sym, ap, subst, ◌∙◌, Option, Some, None}
 use Rattle.std.specs.Prelude.{Ok, Err, nat_le, nat_lt}
 use Rattle.std.proofs.lemmas.Bool.{lt-ltb}
 use Rattle.std.proofs.lemmas.List.{append-nil}
@@ -8,6 +8,7 @@ use Rattle.field_bounds.specs.declared.entry.Command.TheVariants.{Commit}
 use Rattle.field_bounds.specs.declared.entry.Entry.{Entry}
 use Rattle.field_bounds.specs.declared.entry.Escrow.{Escrow}
 use Rattle.field_bounds.specs.declared.entry.Reply.TheVariants.{Committed, Unsure}
+use Rattle.field_bounds.specs.Effects.{escrows_of}
 use Rattle.field_bounds.specs.Owed.{first, refusals, writes}
 use Rattle.escrow_journal.specs.Journal.{escrows_at}
 use Rattle.kept_records.specs.declared.medium.Device.{Device}
@@ -18,7 +19,7 @@ use Rattle.kept_records.specs.Text.{text, IsRecord}
 use Rattle.kept_records.specs.Medium.{AppendFate}
 use Rattle.kept_records.specs.Keeping.{Appends}
 use Rattle.kept_records.specs.Stands.{plain, max_behind}
-use Rattle.kept_state.specs.Keeps.{record_at}
+use Rattle.kept_state.specs.Keeps.{record_left}
 use Rattle.log_replay.specs.Standing.{TakesIn}
 use Rattle.site_step.specs.declared.accounts.SiteAccounts.{SiteAccounts}
 use Rattle.site_step.specs.declared.extent.Extent.{Extent}
@@ -34,24 +35,27 @@ module _ {v w : SiteValue} {up : Bool} {extent : Extent} {a : SiteAccounts} (was
   abbrev kept : Record
   kept = records.Commit txn es
 
-  pub commit_told : writes (here w) (Commit txn) ≡ true
+  commit_told : writes (here w) (Commit txn) ≡ true
   commit_told = ap (nat_lt 0) (commit_count was is txn none are) ∙ lt-ltb 0 (length es) some
 
-  kept_is : kept ≡ record_at (here w) (Commit txn)
-  kept_is = ap (λ (xs : List Escrow). records.Commit txn xs) (are ∙ commit_escrows was is txn none)
+  pub kept_is : record_left (here w) (Commit txn) ≡ kept ∷ []
+  kept_is =
+      let same : kept ≡ records.Commit txn (reverse (escrows_of txn (here w).effects)) =
+      ap (λ (xs : List Escrow). records.Commit txn xs) (are ∙ commit_escrows was is txn none) in
+      rw commit_told (ap (λ (r : Record). r ∷ []) (sym same))
 
   pub commit_fits : IsRecord kept
-  commit_fits = record_fits was is (Commit txn) none commit_told kept_is
+  commit_fits = record_fits was is (Commit txn) none kept_is
 
   can_carry_it : CanCarry v.schema a kept
-  can_carry_it = can_write was is (Commit txn) none commit_told kept_is
+  can_carry_it = can_write was is (Commit txn) none kept_is
 
   pub can_spend : CanClose a txn
   can_spend = can_carry_it.ready
 
   pub few_committed : (past based : List Record) (e : Extent) → extent ≡ counted_from (length (plain past)) e → v.based ≡ past ++ based
       → e.count ≤ length based + length v.history
-  few_committed past based e counted parts = few_written was is (Commit txn) none commit_told past based e counted parts
+  few_committed past based e counted parts = few_written was is (Commit txn) none kept_is past based e counted parts
 
   abbrev Then : List Entry → List ℕ → ℕ → Option Mishap → Option ℕ → SiteValue
   Then h bytes failed left doubt = record v { history = h; bytes = bytes; failed = failed; foretold = left; doubt = doubt }
@@ -71,8 +75,8 @@ module _ {v w : SiteValue} {up : Bool} {extent : Extent} {a : SiteAccounts} (was
   commits undue old {h = h} {b = b} {bytes = bytes} {failed = failed} {left = left} {size = size} {later =
       later} whole spent added fate past long more =
       subst (λ (x : SiteAccounts). Ends w (Commit txn) Committed (Then h (all_bytes v.gone bytes) failed left v.doubt) up later x) (sym spent)
-      (wrote was is (Commit txn) none commit_told Committed kept None old whole kept_is refl
-      (none_due was is (Commit txn) none commit_told kept undue)
+      (wrote was is (Commit txn) none kept_is Committed None old whole refl
+      (none_due was is (Commit txn) none kept_is undue)
       (subst (λ (xs : List Escrow). CanCarry v.schema a (records.Commit txn xs) →
       TakesIn v.schema (after_release txn a).standing (records.Commit txn xs) true (after_spending txn a).standing) (sym are)
       (spends v.schema a txn) can_carry_it)
@@ -89,7 +93,7 @@ module _ {v w : SiteValue} {up : Bool} {extent : Extent} {a : SiteAccounts} (was
       → h ≡ entry_of v (Commit txn) Unsure ∷ v.history
       → Ends w (Commit txn) Unsure (Then h (all_bytes v.gone bytes) failed left (Some extent.count)) false extent a
   commit_unsure undue device old {h = h} {bytes = bytes} {failed = failed} {left = left} whole added fate past =
-      unsure was is (Commit txn) none commit_told kept None device old whole kept_is
-      (none_due was is (Commit txn) none commit_told kept undue)
+      unsure was is (Commit txn) none kept_is None device old whole
+      (none_due was is (Commit txn) none kept_is undue)
       (subst (λ (x : List ℕ). Appends {T = Unit {0}} (Err device) old x bytes v.failed failed) alone added)
       (subst (λ (x : List ℕ). AppendFate v.foretold old x (Err device) bytes left) alone fate) past

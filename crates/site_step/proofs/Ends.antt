@@ -18,14 +18,14 @@ use Rattle.kept_records.specs.Stands.{greatest, plain, since_summary, max_behind
 use Rattle.kept_state.specs.Keeps.{Keeps, adds}
 use Rattle.kept_state.specs.Doubt.{IsDoubt, found_of}
 use Rattle.kept_state.specs.Luck.{doubt_after, record_length}
-use Rattle.kept_state.proofs.Adding.{adds_answer, keeps_length}
+use Rattle.kept_state.proofs.Adding.{adds_answer, keeps_length, none_left}
 use Rattle.site_step.specs.declared.accounts.SiteAccounts.{SiteAccounts}
 use Rattle.site_step.specs.declared.extent.Extent.{Extent}
 use Rattle.site_step.specs.Site.{SiteValue, base_of, here, entry_of, Holds, Finds, Applies}
 use Rattle.site_step.specs.Replaying.{downs_since, downs_before}
 use Rattle.site_step.proofs.Holding.{same_told, holds_all}
 use Rattle.site_step.specs.State.{StandsOn, IsSoundSite}
-use Rattle.site_step.proofs.Settling.{answer_settles, refused_no_restart, refuses_over, noted_none, refusal_fits, answer_fits, refusal_owed, answer_owed, refusal_under, answer_under, answer_writes, lines_none}
+use Rattle.site_step.proofs.Settling.{answer_settles, refused_no_restart, refuses_over, refusal_fits, answer_fits, refusal_owed, answer_owed, refusal_under, answer_under, answer_writes, lines_none}
 use Rattle.site_step.proofs.Standing.{stands_refused}
 
 -- a site is sound after an entry, which is what the call says
@@ -164,7 +164,7 @@ module _ (v : SiteValue) (up : Bool) (extent : Extent) (a : SiteAccounts) (was :
   answered c b n none silent stands =
       let settles = answer_settles at c n in
       let empty : (told : List Record) → told ≡ told ++ adds at c (answer at c) false told =
-      λ told. sym (append-nil told) ∙ ap (λ (l : List Record). told ++ l) (sym (adds_answer at c false told n ∙ noted_none at c silent)) in
+      λ told. sym (append-nil told) ∙ ap (λ (l : List Record). told ++ l) (sym (adds_answer at c false told n ∙ none_left at c silent)) in
       record {
         sound = record {
           ground = was.ground;

@@ -12,7 +12,6 @@ use Rattle.kept_records.specs.Text.{text}
 use Rattle.kept_records.specs.Medium.{IsCutShort}
 use Rattle.kept_records.specs.Logs.{IsLog}
 use Rattle.kept_records.specs.Stands.{greatest}
-use Rattle.kept_state.specs.Keeps.{record_at}
 use Rattle.site_step.specs.Site.{SiteValue, here, lines_behind, lines_of, Writes, Applies}
 
 abbrev BeginsWith : List ℕ → List ℕ → Type 0
@@ -34,7 +33,7 @@ writes_leave : (at : Place) (command : Command) (reply : Reply) (old new : List 
 writes_leave at command (Refused refusal) old new rs rest log writes = (rest, writes ∙ log.parts)
 writes_leave at command Unsure old new rs rest log writes =
     let cut = writes rs rest log in
-    behind_lines old new (take cut.0 (lines_behind at rs (record_at at command))) rs rest log cut.1
+    behind_lines old new (take cut.0 (lines_of at command rs)) rs rest log cut.1
 writes_leave at command StillDown old new rs rest log writes =
     failed_leaves old new (lines_behind at rs (records.Restart (greatest rs + 1))) rs rest log (writes rs rest log)
 writes_leave at command (Restarted epoch found) old new rs rest log writes =

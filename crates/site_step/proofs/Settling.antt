@@ -1,6 +1,8 @@
 -- What an answer leaves as it was, and what the ladder says of a reply that fits.
 use Rattle.std.proofs.Common.{◌≡◌, ℕ, Bool, true, false, ◌&&◌, List, [], ◌∷◌, refl, sym, ap, ◌∙◌, inl, inr, arith, Option, Some, None}
 use Rattle.std.specs.Prelude.{if◌then◌else◌, Result, Ok, Err, IsOk, IfOk, OnOk, IsSome, is_some}
+use Rattle.std.specs.List.{flat_map}
+use Rattle.std.proofs.lemmas.List.{append-nil}
 use Rattle.field_bounds.specs.declared.entry.Command.{Command}
 use Rattle.field_bounds.specs.declared.entry.Command.TheVariants.{Begin, Escrow, Restart}
 use Rattle.field_bounds.specs.declared.entry.Last.{Last}
@@ -15,7 +17,8 @@ use Rattle.site_step.specs.Replaying.{Replays, downs_after, downs_at}
 use Rattle.site_step.specs.Anew.{StandsAnew, ClosesAll}
 use Rattle.kept_state.specs.declared.luck.Luck.{Luck}
 use Rattle.kept_state.specs.declared.luck.Luck.TheVariants.{Fine, Torn}
-use Rattle.kept_state.specs.Keeps.{record_at, record_left, Tells}
+use Rattle.kept_state.specs.Keeps.{record_left, Tells}
+use Rattle.kept_state.proofs.Adding.{none_left}
 use Rattle.kept_state.specs.Luck.{is_torn, owed_with, epoch_kept, doubt_after}
 use Rattle.site_step.specs.State.{is_carried}
 use Rattle.kept_records.specs.declared.medium.Mishap.{Mishap}
@@ -99,12 +102,6 @@ refused_no_restart at c x h = refl
 pub refuses_over : (c : Command) (r : Reply) (rs : List Record) → is_restart c ≡ false → RefusesOver c r rs
 refuses_over Restart r rs n = cc
 refuses_over c r rs n = tt
-
-pub noted_none : (at : Place) (c : Command) → writes at c ≡ false → record_left at c ≡ []
-noted_none at c w = rw w refl
-
-pub noted_one : (at : Place) (c : Command) → writes at c ≡ true → record_left at c ≡ record_at at c ∷ []
-noted_one at c w = rw w refl
 
 -- ---- a reply that fits
 
@@ -204,7 +201,7 @@ pub unsure_writes : (at : Place) (c : Command) (old new : List ℕ) → LeavesUn
 unsure_writes at c old new cut = cut
 
 pub lines_none : (at : Place) (c : Command) (rs : List Record) → writes at c ≡ false → lines_of at c rs ≡ []
-lines_none at c rs w = rw w refl
+lines_none at c rs w = ap (flat_map (lines_behind at rs)) (none_left at c w)
 
-pub lines_one : (at : Place) (c : Command) (rs : List Record) → writes at c ≡ true → lines_of at c rs ≡ lines_behind at rs (record_at at c)
-lines_one at c rs w = rw w refl
+pub lines_one : (at : Place) (c : Command) (rs : List Record) {r : Record} → record_left at c ≡ r ∷ [] → lines_of at c rs ≡ lines_behind at rs r
+lines_one at c rs {r = r} left = ap (flat_map (lines_behind at rs)) left ∙ append-nil (lines_behind at rs r)

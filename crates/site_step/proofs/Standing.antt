@@ -1,8 +1,8 @@
 -- What one more entry does to what a site that is up stands on in memory.
 use Rattle.std.proofs.Common.{◌≡◌, ℕ, ◌+◌, ◌<◌, ◌≤◌, Bool, true, false, ◌&&◌, List, [], ◌∷◌, ◌++◌, length, reverse, refl, sym, ap, subst, ◌∙◌, arith, None}
 use Rattle.std.specs.Prelude.{◌==◌, unsigned_abs, sum_by}
-use Rattle.std.specs.List.{list_all}
-use Rattle.std.proofs.lemmas.Bool.{eqb-true, and_parts, lt-ltb, false≢true}
+use Rattle.std.specs.List.{list_all, AllByRecursion}
+use Rattle.std.proofs.lemmas.Bool.{eqb-true, and_parts, lt-ltb}
 use Rattle.std.proofs.lemmas.List.{length-reverse}
 use Rattle.field_bounds.specs.declared.id.SiteNo.{SiteNo}
 use Rattle.field_bounds.specs.declared.id.FieldNo.{FieldNo}
@@ -31,8 +31,10 @@ use Rattle.site_rights.proofs.RightsLaws.{length-by_escrow, length-by_escrows, f
 use Rattle.escrow_journal.specs.Journal.{Row, is_listed, escrows_at, rows_with as add_escrow, without}
 use Rattle.gift_ledger.specs.Ledger.{LedgerValue}
 use Rattle.kept_records.specs.declared.record.Record.{Record}
+use Rattle.kept_records.specs.declared.record.Record.TheVariants as records
 use Rattle.kept_records.specs.Stands.{greatest, is_field, is_other_site, may_commit, may_follow, Lawful}
-use Rattle.kept_state.specs.Keeps.{record_at}
+use Rattle.kept_state.specs.Keeps.{record_left}
+use Rattle.kept_state.proofs.Adding.{each_if}
 use Rattle.log_replay.specs.Standing.{Stands, TakesIn}
 use Rattle.kept_records.proofs.Covering.{gift_parts, accept_parts, tighten_parts}
 use Rattle.log_replay.proofs.StandingLaws.{has_places, here_only, four_first, is_other, commit_on_fields, room_is}
@@ -296,14 +298,17 @@ module _ (schema : SchemaValue) (s : ℕ) (base : Base) (o : List Entry) (a : Si
     -- ---- a command whose record is taken in
 
     module _ (lawful : Lawful schema s rs) where
-      pub can_carry : (c : Command) → first (refusals at c) ≡ None → writes at c ≡ true → may_follow schema s rs (record_at at c) ≡ true
-          → CanCarry schema a (record_at at c)
-      can_carry (Commit txn) none w may =
+      abbrev Carriable : Record → Type 0
+      Carriable r = may_follow schema s rs r ≡ true → CanCarry schema a r
+
+      pub can_carry : (c : Command) → first (refusals at c) ≡ None → AllByRecursion Carriable (record_left at c)
+      can_carry (Commit txn) none =
           let both = end_opened Committed txn none in
           let can = can_close txn both in
           let is_listed = stands_released txn both in
           let gone = reverse (escrows_of txn es) in
           let ready = (after_release txn a).standing in
+          each_if Carriable (writes at (Commit txn)) (records.Commit txn gone) (λ w may.
           let parts = and_parts (txn.epoch == greatest rs) (list_all (may_commit schema s rs gone) gone) may in
           record {
             ready = can;
@@ -318,8 +323,9 @@ module _ (schema : SchemaValue) (s : ℕ) (base : Base) (o : List Entry) (a : Si
                     ap (sum_by (takes f k)) (escrows_are txn both),
                   ),
             );
-          }
-      can_carry (Give to field kind amount) none w may =
+          })
+      can_carry (Give to field kind amount) none =
+          each_if Carriable true (records.Gift to field kind (told_so_far at to field kind + amount)) (λ w may.
           let parts = gift_parts schema s rs to field kind (told_so_far at to field kind + amount) may in
           let here = four_first (is_other_site schema s to.0) (is_field schema field.0) _ _ may in
           let other = is_other schema s to.0 field.0 here in
@@ -331,8 +337,9 @@ module _ (schema : SchemaValue) (s : ℕ) (base : Base) (o : List Entry) (a : Si
               omega (arith, st.standing.given to.0 field.0 kind other, parts.1),
               omega (arith, was.holds.given to.0 field.0 kind other, give_enough to field kind amount none),
             );
-          }
-      can_carry (Spare to field kind want) none w may =
+          })
+      can_carry (Spare to field kind want) none =
+          each_if Carriable true (records.Gift to field kind (told_so_far at to field kind + spare_of at field kind want)) (λ w may.
           let parts = gift_parts schema s rs to field kind (told_so_far at to field kind + spare_of at field kind want) may in
           let here = four_first (is_other_site schema s to.0) (is_field schema field.0) _ _ may in
           let other = is_other schema s to.0 field.0 here in
@@ -344,8 +351,9 @@ module _ (schema : SchemaValue) (s : ℕ) (base : Base) (o : List Entry) (a : Si
               omega (arith, st.standing.given to.0 field.0 kind other, parts.1),
               omega (arith, was.holds.given to.0 field.0 kind other, spare_enough to field kind want none),
             );
-          }
-      can_carry (Tighten field kind amount) none w may =
+          })
+      can_carry (Tighten field kind amount) none =
+          each_if Carriable true (records.Tighten field kind (cut_so_far at field kind + amount)) (λ w may.
           let parts = tighten_parts schema s rs field kind (cut_so_far at field kind + amount) may in
           let known = tighten_is_in_schema at field kind amount (none_holds (refusals at (Tighten field kind amount)) none) in
           let l : field.0 < length rows = omega (arith, st.standing.count, known) in
@@ -357,8 +365,9 @@ module _ (schema : SchemaValue) (s : ℕ) (base : Base) (o : List Entry) (a : Si
               omega (arith, st.standing.cut field.0 kind l, parts.0),
               omega (arith, was.matches.cut field.0 kind l, tighten_enough field kind amount none),
             );
-          }
-      can_carry (Accept told) none w may =
+          })
+      can_carry (Accept told) none =
+          each_if Carriable (writes at (Accept told)) (records.Accept told.from told.field told.kind told.total) (λ w may.
           let parts = accept_parts schema s rs told.from told.field told.kind told.total may in
           let here = four_first (is_other_site schema s told.from.0) (is_field schema told.field.0) _ _ may in
           let other = is_other schema s told.from.0 told.field.0 here in
@@ -376,8 +385,8 @@ module _ (schema : SchemaValue) (s : ℕ) (base : Base) (o : List Entry) (a : Si
                 parts.2,
               ),
             );
-          }
-      can_carry c none w may = absurd (false≢true w)
+          })
+      can_carry c none = tt
 
       -- what took the record in stands on it
       taken_stands : (fs : List Effect) (ready b : SiteAccounts) (r : Record) → Stands schema s rs ready.standing
@@ -394,28 +403,42 @@ module _ (schema : SchemaValue) (s : ℕ) (base : Base) (o : List Entry) (a : Si
             },
           )
 
-      pub stands_carried : (n : SiteNo) (c : Command) → first (refusals at c) ≡ None → writes at c ≡ true → (b : SiteAccounts)
-          → TakesIn schema (before_taking_in a (record_at at c)).standing (record_at at c) true b.standing
-          → b.journal ≡ (before_taking_in a (record_at at c)).journal → b.last ≡ a.last
-          → StandsOn schema s base (record { site = n; command = c; reply = answer at c } ∷ o) (rs ++ record_at at c ∷ []) b
-      stands_carried n (Commit txn) none w b took same last_is =
+      -- a site that took the record in stands on it
+      abbrev Carries : SiteNo → Command → SiteAccounts → Record → Type 0
+      Carries n c b r =
+          TakesIn schema (before_taking_in a r).standing r true b.standing → b.journal ≡ (before_taking_in a r).journal → b.last ≡ a.last
+          → StandsOn schema s base (record { site = n; command = c; reply = answer at c } ∷ o) (rs ++ r ∷ []) b
+
+      pub stands_carried : (n : SiteNo) (c : Command) → first (refusals at c) ≡ None → (b : SiteAccounts)
+          → AllByRecursion (Carries n c b) (record_left at c)
+      stands_carried n (Commit txn) none b =
           let both = end_opened Committed txn none in
-          let did = taken_stands (ended Committed txn ∷ es) (after_release txn a) b (record_at at (Commit txn)) (stands_released txn both)
+          let note : Record = records.Commit txn (reverse (escrows_of txn es)) in
+          each_if (Carries n (Commit txn) b) (writes at (Commit txn)) note (λ w took same last_is.
+          let did = taken_stands (ended Committed txn ∷ es) (after_release txn a) b note (stands_released txn both)
           (aside_released Committed txn both) took same in
-          record { standing = did.0; aside = did.1; last = omega (arith, st.last, last_is) }
-      stands_carried n (Give to field kind amount) none w b took same last_is =
-          let did = taken_stands es a b (record_at at (Give to field kind amount)) st.standing st.aside took same in
-          record { standing = did.0; aside = record { held = did.1.held; journal = did.1.journal }; last = omega (arith, st.last, last_is) }
-      stands_carried n (Spare to field kind want) none w b took same last_is =
-          let did = taken_stands es a b (record_at at (Spare to field kind want)) st.standing st.aside took same in
-          record { standing = did.0; aside = record { held = did.1.held; journal = did.1.journal }; last = omega (arith, st.last, last_is) }
-      stands_carried n (Tighten field kind amount) none w b took same last_is =
-          let did = taken_stands es a b (record_at at (Tighten field kind amount)) st.standing st.aside took same in
-          record { standing = did.0; aside = record { held = did.1.held; journal = did.1.journal }; last = omega (arith, st.last, last_is) }
-      stands_carried n (Accept told) none w b took same last_is =
-          let did = taken_stands es a b (record_at at (Accept told)) st.standing st.aside took same in
-          record { standing = did.0; aside = record { held = did.1.held; journal = did.1.journal }; last = omega (arith, st.last, last_is) }
-      stands_carried n c none w b took same last_is = absurd (false≢true w)
+          record { standing = did.0; aside = did.1; last = omega (arith, st.last, last_is) })
+      stands_carried n (Give to field kind amount) none b =
+          let note : Record = records.Gift to field kind (told_so_far at to field kind + amount) in
+          each_if (Carries n (Give to field kind amount) b) true note (λ w took same last_is.
+          let did = taken_stands es a b note st.standing st.aside took same in
+          record { standing = did.0; aside = record { held = did.1.held; journal = did.1.journal }; last = omega (arith, st.last, last_is) })
+      stands_carried n (Spare to field kind want) none b =
+          let note : Record = records.Gift to field kind (told_so_far at to field kind + spare_of at field kind want) in
+          each_if (Carries n (Spare to field kind want) b) true note (λ w took same last_is.
+          let did = taken_stands es a b note st.standing st.aside took same in
+          record { standing = did.0; aside = record { held = did.1.held; journal = did.1.journal }; last = omega (arith, st.last, last_is) })
+      stands_carried n (Tighten field kind amount) none b =
+          let note : Record = records.Tighten field kind (cut_so_far at field kind + amount) in
+          each_if (Carries n (Tighten field kind amount) b) true note (λ w took same last_is.
+          let did = taken_stands es a b note st.standing st.aside took same in
+          record { standing = did.0; aside = record { held = did.1.held; journal = did.1.journal }; last = omega (arith, st.last, last_is) })
+      stands_carried n (Accept told) none b =
+          let note : Record = records.Accept told.from told.field told.kind told.total in
+          each_if (Carries n (Accept told) b) (writes at (Accept told)) note (λ w took same last_is.
+          let did = taken_stands es a b note st.standing st.aside took same in
+          record { standing = did.0; aside = record { held = did.1.held; journal = did.1.journal }; last = omega (arith, st.last, last_is) })
+      stands_carried n c none b = tt
 
 -- an entry that has no effect
 pub stands_refused : (schema : SchemaValue) (s : ℕ) (base : Base) (o : List Entry) (rs : List Record) (a : SiteAccounts)

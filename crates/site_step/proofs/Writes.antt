@@ -4,7 +4,6 @@ use Rattle.std.specs.Prelude.{nat_le, if◌then◌else◌, Ok, Err}
 use Rattle.std.proofs.lemmas.Bool.{false≢true}
 use Rattle.std.proofs.lemmas.List.{append-nil}
 use Rattle.field_bounds.specs.declared.entry.Command.{Command}
-use Rattle.field_bounds.specs.declared.entry.Command.TheVariants.{Begin, Escrow, Commit, Abort, Give, Restate, Spare, Tighten, Accept, Read as ReadField, Share, Restart}
 use Rattle.field_bounds.specs.declared.entry.Last.{Last}
 use Rattle.field_bounds.specs.declared.entry.Last.TheVariants.{Kept, Lost}
 use Rattle.field_bounds.specs.declared.entry.Reply.{Reply}
@@ -30,16 +29,16 @@ use Rattle.kept_records.proofs.Summaries.{own_same, may_same, plain_same}
 use Rattle.kept_records.proofs.Lines.{same_log}
 use Rattle.kept_state.specs.declared.luck.Luck.{Luck}
 use Rattle.kept_state.specs.declared.luck.Luck.TheVariants.{Fine, Torn}
-use Rattle.kept_state.specs.Keeps.{Keeps, record_at, adds}
+use Rattle.kept_state.specs.Keeps.{Keeps, record_left, adds}
 use Rattle.kept_state.specs.Doubt.{InDoubt, IsDoubt, found_of}
 use Rattle.kept_state.proofs.Staying.{run_lawful_more}
 use Rattle.log_replay.specs.declared.standing.Standing.{Standing}
 use Rattle.log_replay.specs.Standing.{Stands}
 use Rattle.kept_state.specs.Luck.{doubt_after, record_length}
-use Rattle.kept_state.proofs.Adding.{adds_answer}
+use Rattle.kept_state.proofs.Adding.{adds_answer, left_writes, of_one, IsOwn, left_is_own}
 use Rattle.kept_state.proofs.Epochs.{greatest_noted}
 use Rattle.kept_state.proofs.Sure.{keeps_up}
-use Rattle.kept_state.proofs.Doubt.{record_is_note, doubt_new, found_is_kept}
+use Rattle.kept_state.proofs.Doubt.{doubt_new, found_is_kept}
 use Rattle.site_step.specs.declared.accounts.SiteAccounts.{SiteAccounts}
 use Rattle.site_step.specs.declared.extent.Extent.{Extent}
 use Rattle.site_step.specs.Site.{SiteValue, base_of, here, entry_of, mishap_of, mishap_left, Holds, owed_under, Finds, IsExact}
@@ -49,7 +48,7 @@ use Rattle.site_step.specs.State.{StandsOn, IsSoundSite, ReachesAll, one_record_
 use Rattle.site_step.proofs.Holding.{holds_all, same_told, plain_piece, piece_same, all_lawful, piece_fits, added_all, leaves_by, left_plain, left_holds}
 use Rattle.site_step.proofs.Extents.{reach_all, reach_extended, reach_more}
 use Rattle.site_step.proofs.Prefixes.{begins_more, parts_more}
-use Rattle.site_step.proofs.Settling.{answer_settles, writes_no_restart, refuses_over, noted_one, answer_fits, unsure_fits, whole_owed, unsure_owed, whole_under, unsure_under, answer_writes, unsure_writes, lines_one}
+use Rattle.site_step.proofs.Settling.{answer_settles, writes_no_restart, refuses_over, answer_fits, unsure_fits, whole_owed, unsure_owed, whole_under, unsure_under, answer_writes, unsure_writes, lines_one}
 use Rattle.site_step.proofs.Ends.{Ends, finds_of, finds_held, none_in_doubt}
 
 up_doubt : (kept other : Bool) (o : List Entry) (e : Entry) (rs more : List Record) (doubt : Option ℕ)
@@ -75,20 +74,6 @@ fate_struck (Some Never) old piece device new left fate = absurd (false≢true f
 fate_struck (Some Cut) old piece device new left fate = absurd (false≢true fate.0)
 fate_struck (Some Read) old piece device new left fate = absurd (false≢true fate.0)
 
-pub record_is_plain : (at : Place) (c : Command) → is_summary (record_at at c) ≡ false
-record_is_plain at (Commit txn) = refl
-record_is_plain at (Give to field kind amount) = refl
-record_is_plain at (Spare to field kind want) = refl
-record_is_plain at (Tighten field kind amount) = refl
-record_is_plain at (Accept told) = refl
-record_is_plain at Begin = refl
-record_is_plain at (Escrow txn field change) = refl
-record_is_plain at (Abort txn) = refl
-record_is_plain at (Restate to field kind) = refl
-record_is_plain at (ReadField field) = refl
-record_is_plain at (Share field) = refl
-record_is_plain at Restart = refl
-
 -- what stands for records stands for others of the same sums
 pub stands_as : (schema : SchemaValue) (s : ℕ) (as1 bs : List Record) (standing : Standing) → SameSums as1 bs → Stands schema s bs standing
     → Stands schema s as1 standing
@@ -105,16 +90,12 @@ stands_as schema s as1 bs standing same st = record {
 }
 
 module _ (v : SiteValue) (up : Bool) (extent : Extent) (a : SiteAccounts) (was : IsSoundSite v up extent a) (c : Command)
-    (none : first (refusals (here v) c) ≡ None) (told : writes (here v) c ≡ true)
-    (fits : IsRecord (record_at (here v) c)) where
+    (none : first (refusals (here v) c) ≡ None) (note : Record) (noted : record_left (here v) c ≡ note ∷ []) (fits : IsRecord note) where
   abbrev base : Base
   base = base_of v
 
   abbrev at : Place
   at = here v
-
-  abbrev note : Record
-  note = record_at at c
 
   abbrev schema : SchemaValue
   schema = v.schema
@@ -130,10 +111,16 @@ module _ (v : SiteValue) (up : Bool) (extent : Extent) (a : SiteAccounts) (was :
   rs = plain was.records
 
   abbrev lines : List Record
-  lines = piece v.schema v.site.0 was.records (record_at (here v) c)
+  lines = piece v.schema v.site.0 was.records note
+
+  told : writes at c ≡ true
+  told = left_writes at c noted
+
+  own_note : IsOwn note
+  own_note = left_is_own at c noted
 
   plain_note : is_summary note ≡ false
-  plain_note = record_is_plain at c
+  plain_note = own_note.1
 
   no_restart : is_restart c ≡ false
   no_restart = writes_no_restart at c told
@@ -150,7 +137,7 @@ module _ (v : SiteValue) (up : Bool) (extent : Extent) (a : SiteAccounts) (was :
   pub may : may_follow schema s all note ≡ true
   may =
       sym (may_same schema s rs all (plain_same all) note)
-      ∙ run_lawful_more schema s base (plain v.based) was.ground.is_base was.kept v.history rs was.run was.keeps c none told
+      ∙ of_one (λ r. may_follow schema s rs r ≡ true) noted (run_lawful_more schema s base (plain v.based) was.ground.is_base was.kept v.history rs was.run was.keeps c none)
 
   each : AllByRecursion IsRecord lines
   each = piece_fits schema s all note plain_note was.lawful may was.ground.limits was.ground.site_in was.log.each fits
@@ -165,7 +152,7 @@ module _ (v : SiteValue) (up : Bool) (extent : Extent) (a : SiteAccounts) (was :
   nothing = none_in_doubt was.kept v.history rs v.doubt (up_none_unsure base v.history is_there) was.in_doubt
 
   same_greatest : (stood : Bool) → greatest (rs ++ cond stood (note ∷ []) []) ≡ greatest rs
-  same_greatest true = ap (λ (l : List Record). greatest (rs ++ l)) (sym (noted_one at c told)) ∙ greatest_noted at c rs
+  same_greatest true = ap (λ (l : List Record). greatest (rs ++ l)) (sym noted) ∙ greatest_noted at c rs
   same_greatest false = ap greatest (append-nil rs)
 
   -- the bytes hold these records alone
@@ -187,7 +174,7 @@ module _ (v : SiteValue) (up : Bool) (extent : Extent) (a : SiteAccounts) (was :
     then_ = record v { history = After; bytes = bytes; foretold = left }
 
     more : (other : List Record) → other ++ note ∷ [] ≡ other ++ adds at c (answer at c) true other
-    more other = ap (λ (l : List Record). other ++ l) (sym (adds_answer at c true other no_restart ∙ noted_one at c told))
+    more other = ap (λ (l : List Record). other ++ l) (sym (adds_answer at c true other no_restart ∙ noted))
 
     log : IsLog bytes (all ++ lines) []
     log = subst (λ (l : List ℕ). IsLog l (all ++ lines) []) (sym grown)
@@ -288,7 +275,7 @@ module _ (v : SiteValue) (up : Bool) (extent : Extent) (a : SiteAccounts) (was :
             };
             writes_ = answer_writes at c v.bytes bytes no_restart (λ other rest is.
                 grown ∙ ap (λ (x : List Record). v.bytes ++ flat_map text (piece schema s x note)) (same_all other rest is)
-                ∙ ap (λ (l : List ℕ). v.bytes ++ l) (sym (lines_one at c other told)));
+                ∙ ap (λ (l : List ℕ). v.bytes ++ l) (sym (lines_one at c other noted)));
             foretold = fate_stays v.foretold v.bytes (flat_map text lines) bytes left fate ∙ sym (settles.foretold v.foretold);
             under = λ other rest m log known. whole_under v other rest c m no_restart none (not_append m known);
             exact = exact;
@@ -324,7 +311,7 @@ module _ (v : SiteValue) (up : Bool) (extent : Extent) (a : SiteAccounts) (was :
     torn_ = record v { history = Doubtful; bytes = bytes; failed = v.failed + 1; foretold = left; doubt = Some extent.count }
 
     left_over : (other : List Record) (stood : Bool) → other ++ cond stood (note ∷ []) [] ≡ other ++ adds at c Unsure stood other
-    left_over other true = ap (λ (l : List Record). other ++ l) (sym (noted_one at c told))
+    left_over other true = ap (λ (l : List Record). other ++ l) (sym noted)
     left_over other false = refl
 
     -- what a restart finds by the count
@@ -332,7 +319,7 @@ module _ (v : SiteValue) (up : Bool) (extent : Extent) (a : SiteAccounts) (was :
     finds_it stood =
         ap (λ (n : ℕ). found_of (Some n) (rs ++ cond stood (note ∷ []) [])) reached.count
         ∙ ap (λ (x : Bool). if x then Kept else Lost)
-        (found_is_kept stood rs note (rs ++ cond stood (note ∷ []) []) (doubt_new rs note stood (record_is_note at c told)))
+        (found_is_kept stood rs note (rs ++ cond stood (note ∷ []) []) (doubt_new rs note stood own_note.0))
 
     leaves : (n : ℕ) → bytes ≡ v.bytes ++ take n (flat_map text lines) → Leaves schema s all note (nat_le (length (text note)) n) bytes
     leaves n is = leaves_by schema s all note plain_note was.lawful may n v.bytes bytes whole_log each is
@@ -347,10 +334,13 @@ module _ (v : SiteValue) (up : Bool) (extent : Extent) (a : SiteAccounts) (was :
         let old = finds_of v epoch found finds rs was.rest (holds_all schema s v.bytes all was.rest was.log was.lawful) in
         let stood : Bool = nat_le (length (text note)) n in
         let is = leaves n goes.1 in
+        let long : length (text note) ≡ record_length at c =
+        ap length (sym (append-nil (text note)) ∙ ap (flat_map text) (sym noted)) in
         record {
           reply_is = unsure_owed at c epoch found n none told;
-          finds = finds_held torn_ (rs ++ cond stood (note ∷ []) []) is.rest epoch (if stood then Kept else Lost)
-              (left_holds schema s all note stood bytes is) (same_greatest stood ∙ old.0) (finds_it stood);
+          finds = subst (λ (size : ℕ). Finds torn_ epoch (if nat_le size n then Kept else Lost)) long
+              (finds_held torn_ (rs ++ cond stood (note ∷ []) []) is.rest epoch (if stood then Kept else Lost)
+              (left_holds schema s all note stood bytes is) (same_greatest stood ∙ old.0) (finds_it stood));
         }
 
     under_torn : (other : List Record) (rest : List ℕ) (m : Mishap) → v.foretold ≡ Some m → Unsure ≡ owed_under v other rest c m
@@ -394,7 +384,7 @@ module _ (v : SiteValue) (up : Bool) (extent : Extent) (a : SiteAccounts) (was :
               rs,
               note,
               reached.count,
-              subst (λ (x : List Record). InDoubt stood rs note x) (sym told_is) (doubt_new rs note stood (record_is_note at c told)),
+              subst (λ (x : List Record). InDoubt stood rs note x) (sym told_is) (doubt_new rs note stood own_note.0),
             );
             few = λ h. omega (arith, is.one, reached.few);
             replays = was.replays;
@@ -418,8 +408,8 @@ module _ (v : SiteValue) (up : Bool) (extent : Extent) (a : SiteAccounts) (was :
                   refuses = refuses_over c Unsure other no_restart;
                 };
             writes_ = unsure_writes at c v.bytes bytes
-                (λ other rest log. subst (λ (x : List Record). IsCutShort v.bytes (flat_map text (piece schema s x note)) bytes)
-                (same_all other rest log) cut);
+                (λ other rest log. subst (λ (x : List ℕ). IsCutShort v.bytes x bytes)
+                (ap (λ (x : List Record). flat_map text (piece schema s x note)) (same_all other rest log) ∙ sym (lines_one at c other noted)) cut);
             foretold = fate_struck v.foretold v.bytes (flat_map text lines) device bytes left fate;
             under = λ other rest m log known. under_torn other rest m known;
             exact = exact_torn;

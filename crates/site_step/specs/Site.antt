@@ -10,7 +10,7 @@ use Rattle.field_bounds.specs.declared.entry.Last.{Last}
 use Rattle.field_bounds.specs.declared.entry.Entry.{Entry}
 use Rattle.field_bounds.specs.Schema.{SchemaValue}
 use Rattle.field_bounds.specs.Effects.{Base}
-use Rattle.field_bounds.specs.Owed.{Place, place, Fits, writes, max_epoch}
+use Rattle.field_bounds.specs.Owed.{Place, place, Fits, max_epoch}
 use Rattle.field_bounds.specs.Shape.{answered, restarted, in_doubt, stays_down, refused, shape, asks_restart}
 use Rattle.site_rights.specs.declared.field_rights.Outcome.{Outcome}
 use Rattle.site_rights.specs.declared.field_rights.Outcome.TheVariants.{Committed, Aborted}
@@ -25,7 +25,7 @@ use Rattle.kept_state.specs.declared.luck.Luck.{Luck}
 use Rattle.kept_state.specs.declared.luck.Luck.TheVariants.{Fine, Torn}
 use Rattle.kept_records.specs.Text.{text}
 use Rattle.kept_records.specs.Medium.{IsCutShort}
-use Rattle.kept_state.specs.Keeps.{Keeps, base_of_records, record_at, adds}
+use Rattle.kept_state.specs.Keeps.{Keeps, base_of_records, record_left, adds}
 use Rattle.kept_state.specs.Doubt.{found_of}
 use Rattle.kept_state.specs.Luck.{owed_with, epoch_kept, doubt_after, record_length}
 use Rattle.site_step.specs.Replaying.{Replays, downs_since}
@@ -155,9 +155,9 @@ pub record Logs (before : SiteValue) (command : Command) (reply : Reply) (later 
 abbrev pub lines_behind : Place → List Record → Record → List ℕ
 lines_behind at rs r = flat_map text (piece at.schema at.site rs r)
 
--- The lines of a command's record, where it writes one.
+-- The lines of the record that a command leaves, where it leaves one.
 abbrev pub lines_of : Place → Command → List Record → List ℕ
-lines_of at command rs = if writes at command then lines_behind at rs (record_at at command) else []
+lines_of at command rs = flat_map (lines_behind at rs) (record_left at command)
 
 -- The lines of a command's record stand behind the bytes.
 abbrev pub AddsLines : Place → Command → List ℕ → List ℕ → Type 0
@@ -166,7 +166,7 @@ AddsLines at command old new = (rs : List Record) (rest : List ℕ) → IsLog ol
 -- A command's append failed: some front of its record's lines stands behind the bytes.
 abbrev pub LeavesUnsure : Place → Command → List ℕ → List ℕ → Type 0
 LeavesUnsure at command old new = (rs : List Record) (rest : List ℕ) → IsLog old rs rest
-    → IsCutShort old (lines_behind at rs (record_at at command)) new
+    → IsCutShort old (lines_of at command rs) new
 
 -- What a restart that failed leaves: the bytes as they were, or the whole lines and some front of its record's lines.
 abbrev pub LeavesFailed : Place → List ℕ → List ℕ → Type 0

@@ -15,16 +15,17 @@ ghost use Rattle.site_step.specs.Replaying.{downs_before};
 ghost use Rattle.site_step.specs.Opening.{StartsWith, BeginsBehind, TellsLine, SparesLogs, TellsLineBehind, SparesLogsBehind, FailsUnder, failed_at, foretold_at};
 
 mod alone;
+mod asking;
 mod committing;
 mod ending;
 mod gifts;
 mod identity;
-mod keeping;
 mod ladder;
 mod opening;
 mod restart;
 mod shortening;
 mod tightening;
+mod writing;
 
 use crate::accounts::SiteAccounts;
 use crate::extent::Extent;

@@ -13,14 +13,15 @@ use Rattle.field_bounds.specs.declared.entry.Entry.{Entry}
 use Rattle.field_bounds.specs.declared.effect.Effect.{Effect}
 use Rattle.field_bounds.specs.Schema.{SchemaValue}
 use Rattle.field_bounds.specs.Effects.{Base, same_txn, escrows_of, after, effects, doubt_kept_before}
-use Rattle.field_bounds.specs.Owed.{Place, place, first, refusals, answer, writes, count_since, is_begun_reply, is_unsure, is_still_down, epoch_of, Fits, AnswerFits, RestartFits, IsRun}
+use Rattle.field_bounds.specs.Owed.{Place, place, first, refusals, answer, count_since, is_begun_reply, is_unsure, is_still_down, epoch_of, Fits, AnswerFits, RestartFits, IsRun}
 use Rattle.field_bounds.proofs.Lawful.{same_txn-true}
 use Rattle.field_bounds.proofs.Refused.{match_cases}
 use Rattle.field_bounds.proofs.Doubt.{after_kept, after_refused}
 use Rattle.field_bounds.proofs.Runs.{next_id, begun_is_new, run_is_lawful}
 use Rattle.field_bounds.proofs.Steps.{new_is_unused}
 use Rattle.kept_records.specs.declared.record.Record.{Record}
-use Rattle.kept_state.specs.Keeps.{Keeps, adds, record_at}
+use Rattle.kept_state.specs.Keeps.{Keeps, adds}
+use Rattle.kept_state.proofs.Adding.{length_left}
 use Rattle.site_trace.specs.Records.{escrow_after, has_escrow, leaves_record, records_left, AreSure}
 
 -- ---- replies that are sure
@@ -133,10 +134,6 @@ escrow_is_told schema s base (e ∷ o) run sure txn =
 
 -- ---- what one entry leaves
 
-one_or_none : (b : Bool) (r : Record) → length (cond b (r ∷ []) []) ≡ cond b 1 0
-one_or_none true r = refl
-one_or_none false r = refl
-
 -- an entry adds a record where it is told to leave one
 abbrev Leaves : Place → Bool → List Record → Command → Reply → Type 0
 Leaves at stood front c r = length (adds at c r stood front) ≡ cond (leaves_record at.entries c r) 1 0
@@ -145,12 +142,9 @@ answer_leaves : (schema : SchemaValue) (s : ℕ) (base : Base) (o : List Entry) 
     (front : List Record) (c : Command) → (c ≡ Restart → ⊥)
     → Leaves (place schema s base o) stood front c (answer (place schema s base o) c)
 answer_leaves schema s base o run sure stood front (Commit txn) other =
-    let at = place schema s base o in
-    one_or_none (writes at (Commit txn)) (record_at at (Commit txn))
+    length_left (place schema s base o) (Commit txn)
     ∙ ap (λ (v : Bool). cond v 1 0) (sym (escrow_is_told schema s base o run sure txn))
-answer_leaves schema s base o run sure stood front (Accept told) other =
-    let at = place schema s base o in
-    one_or_none (writes at (Accept told)) (record_at at (Accept told))
+answer_leaves schema s base o run sure stood front (Accept told) other = length_left (place schema s base o) (Accept told)
 answer_leaves schema s base o run sure stood front Restart other = absurd (other refl)
 answer_leaves schema s base o run sure stood front c other = refl
 

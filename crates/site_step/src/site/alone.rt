@@ -1,8 +1,8 @@
 //! A record that is written with no summary behind it, as most are.
 
-ghost use Rattle.std.specs.Prelude.{◌≡◌, true, None, OnErr, IfOk};
-ghost use Rattle.field_bounds.specs.Owed.{first, refusals, answer, writes};
-ghost use Rattle.kept_state.specs.Keeps.{record_at};
+ghost use Rattle.std.specs.Prelude.{◌≡◌, [], ◌∷◌, None, OnErr, IfOk};
+ghost use Rattle.field_bounds.specs.Owed.{first, refusals, answer};
+ghost use Rattle.kept_state.specs.Keeps.{record_left};
 ghost use Rattle.site_step.specs.Site.{here, Applies};
 
 use super::Site;
@@ -26,8 +26,7 @@ impl<M: Medium, H: History<Entry>> Site<M, H> {
         reply: Reply,
     ) -> Result<Reply, AllocError>
         requires unrefused { first (refusals (here self.old) command) ≡ None }
-        requires told { writes (here self.old) command ≡ true }
-        requires kept { kept.now ≡ record_at (here self.old) command }
+        requires kept { record_left (here self.old) command ≡ kept.now ∷ [] }
         requires owed { reply ≡ answer (here self.old) command }
         ensures ok { IfOk result (λ answered. Applies self.old command answered self.new) }
         ensures err { OnErr result (self.new ≡ self.old) }

@@ -1,13 +1,13 @@
-use Rattle.std.proofs.Common.{rules, ◌≡◌, ◌<◌, ◌+◌, length, refl, ap, sym, ◌∙◌, arith, false}
+use Rattle.std.proofs.Common.{rules, ◌≡◌, ◌<◌, ◌+◌, [], ◌∷◌, length, refl, ap, sym, ◌∙◌, arith, false}
 use Rattle.std.specs.Prelude.{nat_lt, nat_le}
 use Rattle.std.proofs.lemmas.List.{length-reverse}
 use Rattle.kept_records.specs.declared.record.Record.TheVariants as records
 use Rattle.kept_records.specs.Stands.{plain, max_behind}
 use Rattle.site_step.proofs.Extents.{longer_counted}
 use Rattle.kept_records.specs.Text.{text}
-use Rattle.site_step.proofs.Calls.{grew, commit_opened, commit_escrows, commit_count}
+use Rattle.site_step.proofs.Calls.{grew, commit_opened, commit_count}
 use Rattle.site_step.proofs.Settling.{some_there}
-use Rattle.site_step.proofs.Committing.{commit_told, commit_fits, can_spend, few_committed, commits, commit_unsure}
+use Rattle.site_step.proofs.Committing.{kept_is, commit_fits, can_spend, few_committed, commits, commit_unsure}
 use Rattle.site_step.proofs.site.Site.commit.Goals as goal
 
 pub unwrap-escrows-requires : goal.unwrap-escrows-requires
@@ -20,17 +20,12 @@ answer-requires-clause-silent g c =
     ap (nat_lt 0) (commit_count c.self.invariant c.self.view_is c.args.txn c.requires.unrefused
     (rw c.unwrap-escrows.ensures at c.escrows.ensures.value) ∙ empty)
 
-pub write-requires-clause-told : goal.write-requires-clause-told
-write-requires-clause-told g c =
-    let some : 0 < length c.unwrap-escrows.result.now = search rules in
-    let are = rw c.unwrap-escrows.ensures at c.escrows.ensures.value in
-    commit_told c.self.invariant c.self.view_is c.args.txn c.requires.unrefused c.unwrap-escrows.result.now are some
-
 pub write-requires-clause-kept : goal.write-requires-clause-kept
 write-requires-clause-kept g c =
-    ap (λ es. records.Commit c.args.txn es) (c.new-escrows.ensures.all ∙ c.in_ok-from_slice.ensures.items
-    ∙ (rw c.unwrap-escrows.ensures at c.escrows.ensures.value)
-    ∙ commit_escrows c.self.invariant c.self.view_is c.args.txn c.requires.unrefused)
+    let some : 0 < length c.unwrap-escrows.result.now = search rules in
+    let are = rw c.unwrap-escrows.ensures at c.escrows.ensures.value in
+    kept_is c.self.invariant c.self.view_is c.args.txn c.requires.unrefused c.unwrap-escrows.result.now are some
+    ∙ ap (λ es. records.Commit c.args.txn es ∷ []) (sym (c.new-escrows.ensures.all ∙ c.in_ok-from_slice.ensures.items))
 
 pub append_commit-requires : goal.append_commit-requires
 append_commit-requires g c =

@@ -11,14 +11,14 @@ use Rattle.site_step.proofs.site.Site.keep.Goals as goal
 pub append_record-requires : goal.append_record-requires
 append_record-requires g c =
     record {
-      ranges = record_fits c.self.invariant c.self.view_is c.args.command c.requires.unrefused c.requires.told c.requires.kept;
+      ranges = record_fits c.self.invariant c.self.view_is c.args.command c.requires.unrefused c.requires.kept;
     }
 
 pub carry_out-requires : goal.carry_out-requires
 carry_out-requires g c =
     record {
-      can = can_write c.self.invariant c.self.view_is c.args.command c.requires.unrefused c.requires.told c.requires.kept;
-      ranges = record_fits c.self.invariant c.self.view_is c.args.command c.requires.unrefused c.requires.told c.requires.kept;
+      can = can_write c.self.invariant c.self.view_is c.args.command c.requires.unrefused c.requires.kept;
+      ranges = record_fits c.self.invariant c.self.view_is c.args.command c.requires.unrefused c.requires.kept;
     }
 
 pub extend-requires : goal.extend-requires
@@ -27,7 +27,7 @@ extend-requires g c =
     record {
       few = omega (
         arith,
-        few_written c.self.invariant c.self.view_is c.args.command c.requires.unrefused c.requires.told c.self.inside.past.items
+        few_written c.self.invariant c.self.view_is c.args.command c.requires.unrefused c.requires.kept c.self.inside.past.items
             c.self.inside.based.list.items c.self.inside.extent refl refl,
         length-reverse (g.H.History.items i.history),
         g.met.H.History.few i.history,
@@ -41,7 +41,7 @@ invariant_of-self-in-Ok g c =
     let undue : nat_le max_behind (c.self.inside.extent.behind + 1) ≡ false = sym c.is_due.ensures.value ∙ c.if-is_due.false in
     let long : c.len.result ≡ length (text c.args.kept.now) =
     omega (arith, c.len.ensures, c.append_record.new.line.ok, ap length c.in_ok-append_record.ensures.line) in
-    (wrote_alone c.self.invariant c.self.view_is c.args.command c.requires.unrefused c.requires.told c.args.kept.now c.requires.kept undue
+    (wrote_alone c.self.invariant c.self.view_is c.args.command c.requires.unrefused c.requires.kept undue
     c.args.reply (g.M.Medium.bytes c.self.inside.medium) c.requires.owed refl c.carry_out.ensures.took c.carry_out.ensures.journal c.carry_out.ensures.last
     (rw c.in-Ok.is at c.in_ok-append_record.ensures.added) (rw c.in-Ok.is at c.in_ok-append_record.ensures.fate)
     (grew c.push_reserved.ensures.items c.in_ok-reserve.ensures.items) long
@@ -52,7 +52,7 @@ returns-in-Ok-clause-ok g c =
     let undue : nat_le max_behind (c.self.inside.extent.behind + 1) ≡ false = sym c.is_due.ensures.value ∙ c.if-is_due.false in
     let long : c.len.result ≡ length (text c.args.kept.now) =
     omega (arith, c.len.ensures, c.append_record.new.line.ok, ap length c.in_ok-append_record.ensures.line) in
-    (wrote_alone c.self.invariant c.self.view_is c.args.command c.requires.unrefused c.requires.told c.args.kept.now c.requires.kept undue
+    (wrote_alone c.self.invariant c.self.view_is c.args.command c.requires.unrefused c.requires.kept undue
     c.args.reply (g.M.Medium.bytes c.self.inside.medium) c.requires.owed refl c.carry_out.ensures.took c.carry_out.ensures.journal c.carry_out.ensures.last
     (rw c.in-Ok.is at c.in_ok-append_record.ensures.added) (rw c.in-Ok.is at c.in_ok-append_record.ensures.fate)
     (grew c.push_reserved.ensures.items c.in_ok-reserve.ensures.items) long
@@ -61,7 +61,7 @@ returns-in-Ok-clause-ok g c =
 pub invariant_of-self-in-Err : goal.invariant_of-self-in-Err
 invariant_of-self-in-Err g c =
     let undue : nat_le max_behind (c.self.inside.extent.behind + 1) ≡ false = sym c.is_due.ensures.value ∙ c.if-is_due.false in
-    (unsure_alone c.self.invariant c.self.view_is c.args.command c.requires.unrefused c.requires.told c.args.kept.now c.requires.kept undue
+    (unsure_alone c.self.invariant c.self.view_is c.args.command c.requires.unrefused c.requires.kept undue
     c.in-Err.field-0 (g.M.Medium.bytes c.self.inside.medium) refl
     (rw c.in-Err.is at c.in_ok-append_record.ensures.added) (rw c.in-Err.is at c.in_ok-append_record.ensures.fate)
     (grew c.push_reserved-in-Err.ensures.items c.in_ok-reserve.ensures.items)).sound
@@ -69,7 +69,7 @@ invariant_of-self-in-Err g c =
 pub returns-in-Err-clause-ok : goal.returns-in-Err-clause-ok
 returns-in-Err-clause-ok g c =
     let undue : nat_le max_behind (c.self.inside.extent.behind + 1) ≡ false = sym c.is_due.ensures.value ∙ c.if-is_due.false in
-    (unsure_alone c.self.invariant c.self.view_is c.args.command c.requires.unrefused c.requires.told c.args.kept.now c.requires.kept undue
+    (unsure_alone c.self.invariant c.self.view_is c.args.command c.requires.unrefused c.requires.kept undue
     c.in-Err.field-0 (g.M.Medium.bytes c.self.inside.medium) refl
     (rw c.in-Err.is at c.in_ok-append_record.ensures.added) (rw c.in-Err.is at c.in_ok-append_record.ensures.fate)
     (grew c.push_reserved-in-Err.ensures.items c.in_ok-reserve.ensures.items)).applies

@@ -1,6 +1,6 @@
-//! What a command that isn't refused does to the site and to its medium.
+//! How a command is refused, settled without a record, or written to the medium and carried out.
 
-ghost use Rattle.std.specs.Prelude.{◌≡◌, ℕ, List, true, false, None, Some, OnErr, IfOk};
+ghost use Rattle.std.specs.Prelude.{◌≡◌, ℕ, List, [], ◌∷◌, true, false, None, Some, OnErr, IfOk};
 ghost use Rattle.std.specs.List.{AllByRecursion};
 ghost use Rattle.kept_records.specs.declared.record.Record.{Record};
 ghost use Rattle.kept_records.specs.Text.{IsRecord};
@@ -8,14 +8,14 @@ ghost use Rattle.kept_records.specs.Logs.{IsLog};
 ghost use Rattle.kept_records.specs.Keeping.{with_due};
 ghost use Rattle.kept_records.specs.Stands.{piece};
 ghost use Rattle.field_bounds.specs.Owed.{first, refusals, answer, writes};
-ghost use Rattle.kept_state.specs.Keeps.{record_at};
+ghost use Rattle.kept_state.specs.Keeps.{record_left};
 ghost use Rattle.site_step.specs.Site.{here, Applies};
 ghost use Rattle.site_step.specs.State.{is_carried};
 
 use super::Site;
 use super::ending::end_append;
 use crate::extent::due_behind;
-use field_bounds::{Command, Entry, FieldNo, Kind, Refusal, Reply, TxnId};
+use field_bounds::{Command, Entry, Refusal, Reply};
 use history::History;
 use kept_records::{Medium, Record, Summary, append_piece};
 use std::alloc::{AllocError, Global};
@@ -64,8 +64,7 @@ impl<M: Medium, H: History<Entry>> Site<M, H> {
         kept: &Record,
     ) -> Result<Option<Summary>, AllocError>
         requires unrefused { first (refusals (here self.now) command) ≡ None }
-        requires told { writes (here self.now) command ≡ true }
-        requires kept { kept.now ≡ record_at (here self.now) command }
+        requires kept { record_left (here self.now) command ≡ kept.now ∷ [] }
         ensures due { IfOk result (λ due. (rs : List Record) (rest : List ℕ)
             → IsLog self.now.bytes rs rest →
             with_due kept.now due ≡ piece self.now.schema self.now.site.0 rs kept.now) }
@@ -91,8 +90,7 @@ impl<M: Medium, H: History<Entry>> Site<M, H> {
         reply: Reply,
     ) -> Result<Reply, AllocError>
         requires unrefused { first (refusals (here self.old) command) ≡ None }
-        requires told { writes (here self.old) command ≡ true }
-        requires kept { kept.now ≡ record_at (here self.old) command }
+        requires kept { record_left (here self.old) command ≡ kept.now ∷ [] }
         requires owed { reply ≡ answer (here self.old) command }
         ensures ok { IfOk result (λ answered. Applies self.old command answered self.new) }
         ensures err { OnErr result (self.new ≡ self.old) }
@@ -104,72 +102,5 @@ impl<M: Medium, H: History<Entry>> Site<M, H> {
             append_piece(&mut self.line, &mut self.medium, kept, due)? =>
                 self.accounts.carry_out(&self.schema, kept)
         }
-    }
-
-    pub(super) fn begin(&mut self) -> Result<Reply, AllocError>
-        requires unrefused { first (refusals (here self.old) Command.Begin) ≡ None }
-        ensures ok { IfOk result (λ reply. Applies self.old Command.Begin reply self.new) }
-        ensures err { OnErr result (self.new ≡ self.old) }
-    {
-        self.history.reserve(1)?;
-        let txn = TxnId {
-            epoch: self.accounts.standing.epoch,
-            number: self.accounts.last + 1,
-        };
-        self.accounts.journal.begin(txn)?;
-        self.accounts.last += 1;
-        let reply = Reply::Begun(txn);
-        self.history.push_reserved(Entry {
-            site: self.number,
-            command: Command::Begin,
-            reply,
-        });
-        Ok(reply)
-    }
-
-    pub(super) fn grant(
-        &mut self,
-        txn: TxnId,
-        field: FieldNo,
-        change: i64,
-    ) -> Result<Reply, AllocError>
-        requires unrefused { first (refusals (here self.old) (Command.Escrow txn field change))
-            ≡ None }
-        ensures ok { IfOk result (λ reply. Applies self.old
-            (Command.Escrow txn field change) reply self.new) }
-        ensures err { OnErr result (self.new ≡ self.old) }
-    {
-        self.history.reserve(1)?;
-        self.accounts.journal.add(txn, field, change)?;
-        self.accounts
-            .standing
-            .rights
-            .take(field, Kind::of(change), change.unsigned_abs())
-            .unwrap();
-        self.history.push_reserved(Entry {
-            site: self.number,
-            command: Command::Escrow { txn, field, change },
-            reply: Reply::Granted,
-        });
-        Ok(Reply::Granted)
-    }
-
-    pub(super) fn read(&mut self, field: FieldNo) -> Result<Reply, AllocError>
-        requires unrefused { first (refusals (here self.old) (Command.Read field)) ≡ None }
-        ensures ok { IfOk result (λ reply. Applies self.old (Command.Read field) reply self.new) }
-        ensures err { OnErr result (self.new ≡ self.old) }
-    {
-        let (lo, hi) = self.bounds_known(field);
-        self.answer(Command::Read { field }, Reply::Between { lo, hi })
-    }
-
-    pub(super) fn tell_shares(&mut self, field: FieldNo) -> Result<Reply, AllocError>
-        requires unrefused { first (refusals (here self.old) (Command.Share field)) ≡ None }
-        ensures ok { IfOk result (λ reply. Applies self.old (Command.Share field) reply self.new) }
-        ensures err { OnErr result (self.new ≡ self.old) }
-    {
-        let lower = self.free(field, Kind::Lower);
-        let raise = self.free(field, Kind::Raise);
-        self.answer(Command::Share { field }, Reply::Shares { lower, raise })
     }
 }
