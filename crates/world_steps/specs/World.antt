@@ -9,6 +9,7 @@ use Rattle.field_bounds.specs.declared.entry.Entry.{Entry}
 use Rattle.field_bounds.specs.Schema.{SchemaValue}
 use Rattle.field_bounds.specs.Effects.{fresh}
 use Rattle.field_bounds.specs.Statements.{statement_of}
+use Rattle.kept_state.specs.Keeps.{entry_at}
 use Rattle.kept_state.specs.declared.luck.Luck.{Luck}
 use Rattle.kept_state.specs.Luck.{Lucky, entries, own_lucky, lucky_reply}
 use Rattle.world_steps.specs.declared.step.WorldStep.{WorldStep}
@@ -76,14 +77,8 @@ StepFits schema (Deliver k luck) = Unit {0}
 -- the site owes after its own entries and their luck, on its fresh base.
 abbrev pub with_entry : SchemaValue → Option (SiteNo × Command) → Luck → List Lucky → List Lucky
 with_entry schema None luck past = past
-with_entry schema (Some who) luck past = (
-  record {
-    site = who.0;
-    command = who.1;
-    reply = lucky_reply schema who.0.0 (fresh schema who.0.0) (own_lucky who.0.0 past) who.1 luck;
-  },
-  luck,
-) ∷ past
+with_entry schema (Some who) luck past =
+    (entry_at who.0 who.1 (lucky_reply schema who.0.0 (fresh schema who.0.0) (own_lucky who.0.0 past) who.1 luck), luck) ∷ past
 
 -- What is lived by these steps: each entry, with the luck of its step.
 abbrev pub world_of : SchemaValue → List WorldStep → List Lucky
