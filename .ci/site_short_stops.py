@@ -370,7 +370,8 @@ def read_while_shortened(program: Program) -> None:
             if (status, err) != (0, "") or now[0] < last[0] or not last[1] <= now[1] <= now[0]:
                 raise Fault(f"{folder}: {status}, {told!r}, {err!r}, and before {last}")
             last = now
-            copied_logs.append(files_of(folder)["log"])
+            with open(f"{folder}/log", "rb") as log:        # alone: what lies beside it comes and goes
+                copied_logs.append(log.read())
         writer.join()
         reader.join()
     finally:
