@@ -1,7 +1,6 @@
 //! Keys of callers.
 
-ghost use Rattle.std.specs.Prelude.{◌≡◌, ◌≤◌, ◌↔◌, length, IsTrue, MatchOption};
-ghost use Rattle.std.specs.List.{AllPass};
+ghost use Rattle.std.specs.Prelude.{◌≡◌, ◌↔◌, IsTrue, MatchOption};
 ghost use Rattle.caller_keys.specs.Keys.{is_key_byte, IsKey};
 
 // The greatest number of bytes of a key.

@@ -1,6 +1,6 @@
 //! What texts of notes and records tell, as contracts of functions that do nothing.
 
-ghost use Rattle.std.specs.Prelude.{◌≡◌, ◌≢◌, ◌++◌, ◌∷◌, ℕ, List, [], All, take};
+ghost use Rattle.std.specs.Prelude.{◌≡◌, ◌≢◌, ◌++◌, ℕ, List, [], All, take};
 ghost use Rattle.std.specs.List.{AllPass, AllByRecursion, flat_map};
 ghost use Rattle.caller_keys.specs.Keys.{KeyNote, IsNote, note_line, is_note_byte, EndsInLineFeed, HasNoLf, IsKeyed, AreLines, LeavesFront, CutsRest};
 

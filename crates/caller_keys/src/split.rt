@@ -1,6 +1,6 @@
 //! Texts of notes and records, split.
 
-ghost use Rattle.std.specs.Prelude.{◌≡◌, ◌≢◌, ◌↔◌, ◌++◌, ◌∷◌, [], List, All, IfOk, OnOk, IsOk, IsTrue};
+ghost use Rattle.std.specs.Prelude.{◌≢◌, ◌↔◌, ◌++◌, ◌∷◌, [], List, All, IfOk, OnOk, IsOk, IsTrue};
 ghost use Rattle.caller_keys.specs.Keys.{IsKey, KeyNote, note_of, IsKeyed};
 ghost use Rattle.caller_keys.specs.Tables.{Splits, Tells};
 ghost use Rattle.caller_keys.specs.Reading.{IsOneLine, Takes};

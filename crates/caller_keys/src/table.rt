@@ -1,6 +1,6 @@
 //! The last transaction of each key.
 
-ghost use Rattle.std.specs.Prelude.{◌≡◌, ◌+◌, ◌≤◌, ◌<◌, ◌++◌, ◌∷◌, [], List, ℕ, None, Some, length, slice_get, option_map, IfSome, OnOk, OnErr, if◌then◌else◌, bytes_eq};
+ghost use Rattle.std.specs.Prelude.{◌≡◌, ◌+◌, ◌≤◌, ◌<◌, ◌++◌, ◌∷◌, [], List, ℕ, None, Some, length, slice_get, option_map, IfSome, OnOk, if◌then◌else◌, bytes_eq};
 ghost use Rattle.caller_keys.specs.Keys.{KeyNote, note_of, last_txn};
 ghost use Rattle.caller_keys.specs.Tables.{stored_of, last_in, Tells};
 

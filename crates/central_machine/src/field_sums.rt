@@ -1,10 +1,10 @@
 //! What all sites together have done to the fields, in sums.
 
-ghost use Rattle.std.specs.Prelude.{◌≡◌, ℕ, ◌+◌, ◌-◌, ◌<◌, ◌≤◌, true, unsigned_abs, [], length, IfOk};
+ghost use Rattle.std.specs.Prelude.{◌≡◌, ℕ, ◌+◌, ◌-◌, ◌<◌, ◌≤◌, true, unsigned_abs, [], IfOk};
 ghost use Rattle.field_bounds.specs.declared.kind.Kind.{Kind};
 ghost use Rattle.field_bounds.specs.Kind.{kind_of, other};
-ghost use Rattle.central_machine.specs.FieldAmounts.{amount, has_slot, IsPut, capped_sum};
-ghost use Rattle.central_machine.specs.Open.{escrows_at, all_escrows};
+ghost use Rattle.central_machine.specs.FieldAmounts.{amount, has_slot, capped_sum};
+ghost use Rattle.central_machine.specs.Open.{all_escrows};
 ghost use Rattle.central_machine.specs.Running.{sizes_taken};
 ghost use Rattle.central_machine.specs.Sums.{Grows, Shrinks, Moves, Tightens, SettlesDoubt, Closes, CommitsAndCloses, SetAside, SumsTake, SumsAfter, AreSums};
 

@@ -2,7 +2,6 @@
 
 ghost use Rattle.std.specs.Prelude.{◌≡◌, ◌<◌, ℕ, length, slice_get, List, ◌∷◌, [], OnOk, IfOk, Some, None};
 ghost use Rattle.field_bounds.specs.declared.entry.Entry.{Entry};
-ghost use Rattle.field_bounds.specs.Schema.{SchemaValue};
 ghost use Rattle.field_bounds.specs.Effects.{fresh};
 ghost use Rattle.central_rules.specs.Entries.{most_entries};
 ghost use Rattle.central_rules.specs.declared.verdict.Verdict.TheVariants.{Legal};

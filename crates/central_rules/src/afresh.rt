@@ -3,7 +3,6 @@
 ghost use Rattle.std.specs.Prelude.{◌≡◌, ◌≤◌, ◌*◌, ℕ, ◌<◌, reverse, length, List, ◌∷◌, ◌+◌, filter, Option};
 ghost use Rattle.field_bounds.specs.Schema.{SchemaValue};
 ghost use Rattle.field_bounds.specs.Parts.{part_of};
-ghost use Rattle.field_bounds.specs.Kind.{kind_of, other};
 ghost use Rattle.field_bounds.specs.Effects.{is_begun, is_committed, is_dropped, granted_sizes, gifts, gains, total_accepted, cut, share, fresh, Base, escrows_of, begun_txns, is_open};
 ghost use Rattle.field_bounds.specs.Owed.{count_open, count_escrows};
 ghost use Rattle.field_bounds.specs.declared.effect.Effect.{Effect};

@@ -1,8 +1,8 @@
 //! What the entries of a front make of one site, made afresh.
 
-ghost use Rattle.std.specs.Prelude.{◌≡◌, ◌≤◌, ◌<◌, reverse, length, IfOk, false, true, List, ◌∷◌, ◌+◌, int_le, nat_lt, nat_le, ◌-◌, ◌&&◌, if◌then◌else◌, Some, None, ◌≤ℤ◌, pos, ◌+ℤ◌, ◌-ℤ◌};
+ghost use Rattle.std.specs.Prelude.{◌≡◌, ◌≤◌, ◌<◌, reverse, length, IfOk, false, true, ◌+◌, int_le, nat_lt, nat_le, ◌-◌, ◌&&◌, Some, ◌≤ℤ◌, pos, ◌+ℤ◌, ◌-ℤ◌};
 ghost use Rattle.field_bounds.specs.Effects.{effects, effect_of, fresh, share, wanted_by, spared_at};
-ghost use Rattle.field_bounds.specs.Central.{own, sizes, at_site, committed_value, open_sizes, cuts, IsSound};
+ghost use Rattle.field_bounds.specs.Central.{own, sizes, at_site, committed_value, cuts, IsSound};
 ghost use Rattle.field_bounds.specs.Parts.{field_at};
 ghost use Rattle.field_bounds.specs.Owed.{is_up, epoch_of, count_since, is_begun_reply, is_still_down, is_unsure};
 ghost use Rattle.central_rules.specs.Entries.{most_entries};

@@ -2,7 +2,7 @@
 ghost use Rattle.std.specs.Prelude.{◌≡◌, ◌≤◌, ◌<◌, ◌↔◌, ℕ, IfOk, reverse, length, Option, Some, None};
 ghost use Rattle.central_rules.specs.Entries.{most_entries};
 ghost use Rattle.central_rules.specs.declared.verdict.Rule.{Rule};
-ghost use Rattle.central_rules.specs.Verdict.{IsFirstBad, verdict_of, broken_rule, statement_test, is_issued, is_told_by, same_statement, verdict_back, grant_test, shortage_test, interval_test, test_of};
+ghost use Rattle.central_rules.specs.Verdict.{IsFirstBad, verdict_of, broken_rule, statement_test, is_issued, same_statement, verdict_back, grant_test, shortage_test, interval_test, test_of};
 ghost use Rattle.central_rules.specs.declared.verdict.Verdict.TheVariants.{Legal, Illegal};
 ghost use Rattle.field_bounds.specs.Statements.{statement_of};
 ghost use Rattle.field_bounds.specs.Central.{IsSound, IsCentral};

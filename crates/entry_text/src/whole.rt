@@ -2,7 +2,7 @@
 //! into words, where the reply is one of the common kinds.
 
 ghost use Rattle.std.specs.Prelude.{◌≡◌, IfSome};
-ghost use Rattle.std.specs.Fmt.{decimal, signed_decimal};
+ghost use Rattle.std.specs.Fmt.{decimal};
 ghost use Rattle.entry_text.specs.Ranges.{ReplyFits, IdFits};
 ghost use Rattle.entry_text.specs.Spelling.{id_text, reply_text};
 

@@ -1,6 +1,6 @@
 //! The reading of an input, line by line.
 
-ghost use Rattle.std.specs.Prelude.{◌≡◌, ◌≢◌, ◌∷◌, ◌++◌, [], IfOk, IfErr, OnOk, OnErr, true, false};
+ghost use Rattle.std.specs.Prelude.{◌≡◌, ◌≢◌, IfOk, IfErr, OnOk, OnErr, true, false};
 ghost use Rattle.script_input.specs.Streams.{HasFailed};
 ghost use Rattle.script_input.specs.Faults.{CountsReads};
 ghost use Rattle.escrow_audit.specs.Reading.{TakesIn, FindsIn, FaultsIn, WantsAt};

@@ -1,6 +1,6 @@
 //! A trace as text, and the verdict on it.
 
-ghost use Rattle.std.specs.Prelude.{◌≡◌, IfOk};
+ghost use Rattle.std.specs.Prelude.{◌≡◌};
 ghost use Rattle.escrow_c.specs.Texts.{Judges};
 
 use crate::status::{BAD_ENTRY, DONE, ILLEGAL, NO_MEMORY, NO_SCHEMA};

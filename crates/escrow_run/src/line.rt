@@ -1,7 +1,6 @@
 //! What a line behind the header asks.
 
 ghost use Rattle.std.specs.Prelude.{◌≡◌, ◌≢◌, ◌<◌, ◌≤◌, ◌++◌, ◌∷◌, ◌↔◌, ℕ, List, All, IfNone, IfSome, IsTrue, MatchBool, MatchOption, Some, codes, slice_index};
-ghost use Rattle.field_bounds.specs.Schema.{SchemaValue};
 ghost use Rattle.field_bounds.specs.Limits.{IsSchema};
 ghost use Rattle.field_bounds.specs.declared.id.SiteNo.{SiteNo as Site};
 ghost use Rattle.field_bounds.specs.declared.entry.Command.{Command as CommandType};

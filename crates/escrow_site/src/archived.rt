@@ -1,6 +1,6 @@
 //! A log of which each part that it lets go of is kept.
 
-ghost use Rattle.std.specs.Prelude.{◌≡◌, Some};
+ghost use Rattle.std.specs.Prelude.{Some};
 ghost use Rattle.short_files.specs.Short.{safe_of};
 
 use crate::linked::folder_of;

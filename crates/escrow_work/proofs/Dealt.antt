@@ -6,7 +6,8 @@ use Rattle.std.proofs.lemmas.Bool.{eq-eqb, ne_eqb}
 use Rattle.field_bounds.specs.declared.id.SiteNo.{SiteNo}
 use Rattle.field_bounds.specs.declared.entry.Command.{Command}
 use Rattle.field_bounds.specs.Schema.{SchemaValue}
-use Rattle.site_workers.specs.Scripts.{is_accept, HasNoAccept, AreSpared, ScriptsFit, scripts_of}
+use Rattle.field_bounds.specs.Shape.{is_accept}
+use Rattle.site_workers.specs.Scripts.{HasNoAccept, AreSpared, ScriptsFit, scripts_of}
 use Rattle.escrow_work.specs.Scripts.{AreAsked, script_of, scripts_above, scripts_from, with_command}
 
 -- ---- one command more

@@ -4,10 +4,10 @@ use Rattle.field_bounds.specs.declared.id.SiteNo.{SiteNo}
 use Rattle.field_bounds.specs.declared.entry.Command.{Command}
 use Rattle.field_bounds.specs.Schema.{SchemaValue}
 use Rattle.field_bounds.specs.Header.{schema_of}
+use Rattle.field_bounds.specs.Shape.{is_accept}
 use Rattle.entry_text.specs.Spelling.{command_text}
 use Rattle.entry_text.specs.Ranges.{SiteFits, CommandFits}
 use Rattle.entry_text.specs.Lines.{max_line}
-use Rattle.site_workers.specs.Scripts.{is_accept}
 
 -- A line is a plain command: the text of a command at a site of the schema, which isn't an accept, and not too long.
 pub record IsPlain (schema : SchemaValue) (line : List ℕ) (site : SiteNo) (command : Command) : Type 0 where

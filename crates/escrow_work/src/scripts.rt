@@ -1,11 +1,11 @@
 //! The scripts of the sites.
 
 ghost use Rattle.std.specs.Prelude.{◌≡◌, ◌<◌, [], length, IfOk, OnOk, IfSome, IfNone};
-ghost use Rattle.site_workers.specs.Scripts.{is_accept, scripts_of};
+ghost use Rattle.site_workers.specs.Scripts.{scripts_of};
 ghost use Rattle.escrow_work.specs.Scripts.{IsPlain, IsBadLine, scripts_from, with_command};
 
 use entry_text::{MAX_LINE, read_command};
-use field_bounds::{Command, Schema, SiteNo};
+use field_bounds::{Command, Schema, SiteNo, is_accept};
 use std::alloc::{AllocError, Global};
 
 /// The schema, the header line as it was read, and each site's script so far.
@@ -15,26 +15,6 @@ pub(crate) struct Scripts {
     pub(crate) header: Vec<u8>,
     pub(crate) rows: Vec<Vec<Command>>,
     ghost whole: { length rows.items ≡ schema.sites },
-}
-
-// Whether the command is an accept.
-fn is_accept(command: &Command) -> bool
-    ensures { result ≡ is_accept command.now }
-{
-    match command {
-        Command::Accept(_) => true,
-        Command::Begin
-        | Command::Escrow { .. }
-        | Command::Commit { .. }
-        | Command::Abort { .. }
-        | Command::Give { .. }
-        | Command::Restate { .. }
-        | Command::Spare { .. }
-        | Command::Tighten { .. }
-        | Command::Read { .. }
-        | Command::Share { .. }
-        | Command::Restart => false,
-    }
 }
 
 /// What a plain line asks.

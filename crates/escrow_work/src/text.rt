@@ -1,10 +1,9 @@
 //! What a work reads and writes.
 
-ghost use Rattle.std.specs.Prelude.{◌≡◌, ◌≢◌, ℕ, ◌++◌, ◌∷◌, [], List, IfOk, IfErr, OnOk, OnErr};
-ghost use Rattle.std.specs.Io.KnownBytes.{Appends};
+ghost use Rattle.std.specs.Prelude.{◌≡◌, ◌≢◌, ℕ, List, IfOk, IfErr, OnOk};
 ghost use Rattle.site_workers.specs.Scripts.{scripts_of, ScriptsFit};
 ghost use Rattle.script_input.specs.Faults.{CountsReads, CountsWrites};
-ghost use Rattle.script_input.specs.Streams.{HasFailed, GaveNothing, HasRefused, AppendsPrefix};
+ghost use Rattle.script_input.specs.Streams.{HasFailed, GaveNothing, HasRefused};
 ghost use Rattle.escrow_work.specs.Scripts.{HasScripts};
 ghost use Rattle.escrow_work.specs.Work.{work_text, MakesNone, IsWorkOf, WritesWork, Fails, Tells, FaultsIn};
 

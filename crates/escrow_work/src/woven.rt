@@ -1,6 +1,6 @@
 //! What the workers of scripts make, woven.
 
-ghost use Rattle.std.specs.Prelude.{◌≡◌, IfOk, IfErr};
+ghost use Rattle.std.specs.Prelude.{IfOk, IfErr};
 ghost use Rattle.site_workers.specs.Scripts.{scripts_of, ScriptsFit};
 ghost use Rattle.escrow_work.specs.Work.{Works, MakesNone};
 

@@ -7,10 +7,11 @@ ghost use Rattle.field_bounds.specs.declared.effect.Effect.TheVariants.{Gives};
 ghost use Rattle.field_bounds.specs.declared.entry.Entry.{Entry};
 ghost use Rattle.field_bounds.specs.Effects.{effect_by, wanted_by, spared_at, counts, doubt_kept_in};
 ghost use Rattle.field_bounds.specs.Owed.{is_unsure};
+ghost use Rattle.field_bounds.specs.Shape.{txn_ended};
 
 use crate::effect::Effect;
 use crate::entry::{Command, Entry, Last, Reply};
-use crate::id::{FieldNo, SiteNo};
+use crate::id::{FieldNo, SiteNo, TxnId};
 use crate::kind::Kind;
 
 /// On which field, of which kind and how much a spare wants: None for every other command. Costs no
@@ -32,6 +33,26 @@ pub fn wanted_by(command: Command) -> Option<(FieldNo, Kind, u64)>
         | Command::Abort { .. }
         | Command::Give { .. }
         | Command::Restate { .. }
+        | Command::Tighten { .. }
+        | Command::Accept(_)
+        | Command::Read { .. }
+        | Command::Share { .. }
+        | Command::Restart => None,
+    }
+}
+
+/// The transaction that a command ends: None for a command that ends none. Costs no memory.
+#[inline(always)]
+pub fn txn_ended(command: Command) -> Option<TxnId>
+    ensures value { result ≡ txn_ended command }
+{
+    match command {
+        Command::Commit { txn } | Command::Abort { txn } => Some(txn),
+        Command::Begin
+        | Command::Escrow { .. }
+        | Command::Give { .. }
+        | Command::Restate { .. }
+        | Command::Spare { .. }
         | Command::Tighten { .. }
         | Command::Accept(_)
         | Command::Read { .. }

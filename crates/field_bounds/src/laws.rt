@@ -1,16 +1,14 @@
 //! Laws of the definitions, each as the contract of a function that does nothing.
 
-ghost use Rattle.std.specs.Prelude.{◌≡◌, ℕ, ◌≤◌, ◌≤ℤ◌, List, [], ◌∷◌, ◌++◌, Bool, true, false, map};
+ghost use Rattle.std.specs.Prelude.{◌≡◌, ℕ, ◌≤◌, ◌≤ℤ◌, List, [], ◌∷◌, ◌++◌, Bool, true, false};
 ghost use Rattle.field_bounds.specs.declared.id.TxnId.{TxnId};
 ghost use Rattle.field_bounds.specs.declared.kind.Kind.{Kind};
-ghost use Rattle.field_bounds.specs.declared.entry.Command.{Command};
 ghost use Rattle.field_bounds.specs.declared.entry.Last.{Last};
-ghost use Rattle.field_bounds.specs.declared.entry.Reply.{Reply};
 ghost use Rattle.field_bounds.specs.declared.entry.Entry.{Entry};
 ghost use Rattle.field_bounds.specs.Schema.{SchemaValue};
 ghost use Rattle.field_bounds.specs.Limits.{IsSchema};
 ghost use Rattle.field_bounds.specs.Effects.{Base, open_txns, held_rights, share, own_rights, says_doubt_kept, effects, rights_in, rights_out};
-ghost use Rattle.field_bounds.specs.Owed.{Place, is_up, IsRestarted, Fits, IsRun};
+ghost use Rattle.field_bounds.specs.Owed.{is_up, IsRestarted, IsRun};
 ghost use Rattle.field_bounds.specs.Central.{inf, sup, outcome, floor_in, ceiling_in, OutcomesAreBounded, IsCentral, IsSound, IsConservedThroughout};
 
 /// At a site whose replies are all owed, the rights that went out never exceed those that came in:

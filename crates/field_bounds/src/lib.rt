@@ -25,7 +25,7 @@ mod tighten_rows;
 
 pub use bounds::{lower_by, raise_by};
 pub use effect::Effect;
-pub use effects::{counts, effect_of, wanted_by};
+pub use effects::{counts, effect_of, txn_ended, wanted_by};
 pub use entry::{Command, Entry, Escrow, Last, Refusal, Reply, Statement};
 pub use fault::SchemaFault;
 pub use field::FieldSpec;
@@ -40,5 +40,5 @@ pub use restart_rows::{worked_doubt, worked_restarts, wrong_restarts};
 pub use schema::Schema;
 pub use site_rows::{worked_runs, worked_sites, worked_values, wrong_replies, wrong_shares};
 pub use spare::spared_amount;
-pub use statements::{may_issue, statement_of};
+pub use statements::{is_accept, may_issue, statement_of};
 pub use tighten_rows::{worked_bounds, worked_tightenings, wrong_tightenings, wrong_traces};

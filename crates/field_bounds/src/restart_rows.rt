@@ -6,15 +6,15 @@ ghost use Rattle.std.specs.Prelude.{◌≡◌, ℕ, pos, [], ◌∷◌, reverse,
 ghost use Rattle.field_bounds.specs.declared.kind.Kind.TheVariants.{Lower, Raise};
 ghost use Rattle.field_bounds.specs.declared.entry.Command.TheVariants.{Begin, Commit, Restate, Read, Share, Restart};
 ghost use Rattle.field_bounds.specs.declared.entry.Last.{Last};
-ghost use Rattle.field_bounds.specs.declared.entry.Last.TheVariants.{Nothing, Kept, Lost};
+ghost use Rattle.field_bounds.specs.declared.entry.Last.TheVariants.{Nothing, Kept};
 ghost use Rattle.field_bounds.specs.declared.entry.Refusal.TheVariants.{NumbersFull, NothingGiven};
-ghost use Rattle.field_bounds.specs.declared.entry.Reply.TheVariants.{Begun, Committed, Between, Shares, Restarted, Unsure, StillDown, Refused};
+ghost use Rattle.field_bounds.specs.declared.entry.Reply.TheVariants.{Begun, Committed, Between, Shares, Restarted, Unsure, Refused};
 ghost use Rattle.field_bounds.specs.Owed.{IsRun};
 ghost use Rattle.field_bounds.specs.Statements.{statement_of};
 ghost use Rattle.field_bounds.specs.Central.{committed_value, inf, sup, shares, in_flight, IsTold, IsSound};
 ghost use Rattle.field_bounds.specs.Worked.{halved_shelf, stock, txn, row_entry};
 ghost use Rattle.field_bounds.specs.WorkedGifts.{site, give_lower, spare_raise, takes_in, IsOwedAt, IsWrongAt};
-ghost use Rattle.field_bounds.specs.WorkedRestarts.{txn_of, row_aborted, in_doubt, row_lost, row_kept, kept_late, epoch_used, gift_kept, spare_kept, spare_lost, row_spent, no_epoch_left};
+ghost use Rattle.field_bounds.specs.WorkedRestarts.{row_aborted, in_doubt, row_lost, row_kept, kept_late, epoch_used, gift_kept, spare_kept, spare_lost, row_spent, no_epoch_left};
 
 /// Each reply of these rows is owed.
 pub fn worked_restarts()

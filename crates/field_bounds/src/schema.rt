@@ -2,7 +2,7 @@
 //!
 //! Source: the division of rights among sites follows Balegas and others 2015.
 
-ghost use Rattle.std.specs.Prelude.{◌≡◌, [], ◌<◌, ◌≤◌, map, IsTrue, Ok, Err, Option, option_map, slice_get, length};
+ghost use Rattle.std.specs.Prelude.{◌≡◌, [], ◌<◌, ◌≤◌, map, Ok, Err, Option, option_map, length};
 ghost use Rattle.field_bounds.specs.Schema.{Gives, same_schema, spec_value};
 ghost use Rattle.field_bounds.specs.Limits.{is_name_byte, is_name_length, is_name, is_used, has_bounds, field_fault, first_fault, unless, count_of, of_parts};
 ghost use Rattle.field_bounds.specs.Header.{schema_of};

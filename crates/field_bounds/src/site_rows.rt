@@ -5,7 +5,7 @@ ghost use Rattle.std.specs.Prelude.{◌≡◌, pos, reverse, take};
 ghost use Rattle.field_bounds.specs.declared.kind.Kind.TheVariants.{Lower, Raise};
 ghost use Rattle.field_bounds.specs.declared.entry.Command.TheVariants.{Begin, Commit, Read, Share};
 ghost use Rattle.field_bounds.specs.declared.entry.Refusal.{Refusal};
-ghost use Rattle.field_bounds.specs.declared.entry.Reply.TheVariants.{Begun, Granted, Committed, Aborted, Between, Shares, Refused};
+ghost use Rattle.field_bounds.specs.declared.entry.Reply.TheVariants.{Begun, Committed, Aborted, Between, Shares, Refused};
 ghost use Rattle.field_bounds.specs.Limits.{IsSchema};
 ghost use Rattle.field_bounds.specs.Parts.{part_of};
 ghost use Rattle.field_bounds.specs.Central.{committed_value, inf, sup, IsSound};

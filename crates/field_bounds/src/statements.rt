@@ -3,6 +3,7 @@
 ghost use Rattle.std.specs.Prelude.{◌≡◌, false, None};
 ghost use Rattle.field_bounds.specs.declared.id.SiteNo.{SiteNo};
 ghost use Rattle.field_bounds.specs.declared.entry.Reply.{Reply};
+ghost use Rattle.field_bounds.specs.Shape.{is_accept};
 ghost use Rattle.field_bounds.specs.Statements.{statement_of, told_by, may_issue};
 
 use crate::entry::{Command, Entry, Reply, Statement};
@@ -68,4 +69,12 @@ pub fn may_issue(command: &Command) -> bool
         *command,
         Command::Give { .. } | Command::Restate { .. } | Command::Spare { .. }
     )
+}
+
+/// Whether a command takes a statement in. Costs no memory.
+#[inline(always)]
+pub fn is_accept(command: &Command) -> bool
+    ensures value { result ≡ is_accept command.now }
+{
+    matches!(*command, Command::Accept(_))
 }

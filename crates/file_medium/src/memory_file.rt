@@ -1,6 +1,6 @@
 //! A file in memory that tells its bytes, and fails as it is told.
 
-ghost use Rattle.std.specs.Prelude.{◌≡◌, [], None, Some, take, length};
+ghost use Rattle.std.specs.Prelude.{◌≡◌, [], None, Some, length};
 
 use crate::log_file::{FileFailed, LogFile};
 use std::alloc::Global;

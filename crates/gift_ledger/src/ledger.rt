@@ -1,6 +1,6 @@
 //! The ledger of one site.
 
-ghost use Rattle.std.specs.Prelude.{ℕ, ◌≡◌, ◌≢◌, ◌+◌, ◌-◌, ◌<◌, ◌≤◌, ◌↔◌, max, ◌==◌, if◌then◌else◌, Some, None, IsErr, IfOk, IfErr, OnOk, OnErr};
+ghost use Rattle.std.specs.Prelude.{ℕ, ◌≡◌, ◌+◌, ◌-◌, ◌<◌, ◌≤◌, ◌↔◌, max, ◌==◌, if◌then◌else◌, Some, None, IsErr, IfOk, IfErr, OnOk, OnErr};
 ghost use Rattle.field_bounds.specs.Owed.{max_total};
 ghost use Rattle.gift_ledger.specs.Ledger.{IsSlot, fresh_ledger, account_in, account_at, total_at, accepted_at, put_at, with_total, with_accepted};
 

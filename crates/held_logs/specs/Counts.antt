@@ -1,7 +1,8 @@
 -- How far a shortened log has come, and how many records it has, those that are gone included (this project).
-use Rattle.std.specs.Prelude.{◌≡◌, ℕ, ◌+◌, ◌-◌, ◌^◌, max, min, List, [], ◌∷◌}
+use Rattle.std.specs.Prelude.{◌≡◌, ℕ, ◌+◌, ◌-◌, ◌^◌, max, min, List, [], ◌∷◌, Option, Some, None}
 use Rattle.kept_records.specs.declared.record.Record.{Record}
-use Rattle.kept_records.specs.declared.record.Record.TheVariants.{Commit, Gift, Accept, Tighten, Restart, Summary}
+use Rattle.kept_records.specs.Kinds.{base_told}
+use Rattle.kept_records.specs.Summary.{SummaryValue}
 use Rattle.kept_records.specs.declared.counting.LogCount.{LogCount}
 use Rattle.kept_records.specs.Counting.{IsCountOf}
 use Rattle.kept_records.specs.Stands.{greatest}
@@ -13,13 +14,12 @@ abbrev pub told_number : ℕ → ℕ
 told_number n = min n (2 ^ 64 - 1)
 
 -- The epoch that a summary tells; other records tell none.
+abbrev pub epoch_in : Option SummaryValue → ℕ
+epoch_in None = 0
+epoch_in (Some base) = base.epoch
+
 abbrev pub epoch_told : Record → ℕ
-epoch_told (Commit txn escrows) = 0
-epoch_told (Gift to field kind total) = 0
-epoch_told (Accept from field kind total) = 0
-epoch_told (Tighten field kind total) = 0
-epoch_told (Restart epoch) = 0
-epoch_told (Summary epoch rights gifts accepts tightenings) = epoch
+epoch_told r = epoch_in (base_told r)
 
 -- The epoch that a base tells, where the records begin with one.
 abbrev pub base_epoch : List Record → ℕ

@@ -3,7 +3,7 @@
 ghost use Rattle.std.specs.Prelude.{IfOk};
 ghost use Rattle.held_logs.specs.Behind.{IsFirst};
 
-use kept_records::{LentRecords, Record, RecordLine, Summary};
+use kept_records::{LentRecords, RecordLine, Summary};
 use std::alloc::{AllocError, Global};
 
 /// What the first line is.
@@ -22,16 +22,10 @@ pub(crate) fn first_line(alloc: Global, lines: &mut LentRecords) -> Result<First
     ensures first { IfOk result (λ first. IsFirst lines.old.left first lines.new.left) }
 {
     match lines.next_line(alloc)? {
-        RecordLine::Record(
-            Record::Summary {
-                epoch,
-                rights,
-                gifts,
-                accepts,
-                tightenings,
-            },
-        ) => Ok(FirstLine::Base(Summary::new(epoch, rights, gifts, accepts, tightenings))),
-        RecordLine::Record(_) => Ok(FirstLine::Other),
+        RecordLine::Record(kept) => Ok(match kept.into_summary() {
+            Some(base) => FirstLine::Base(base),
+            None => FirstLine::Other,
+        }),
         RecordLine::NoRecord | RecordLine::End => Ok(FirstLine::Missing),
     }
 }

@@ -1,10 +1,10 @@
 -- What a site does with its medium.
-use Rattle.std.specs.Prelude.{◌≡◌, ◌⊎◌, ℕ, ◌+◌, ◌<◌, Bool, true, false, not, List, [], ◌∷◌, ◌++◌, length, take, drop, Option, Some, None, Result, Ok, Err, IsOk, IsErr}
+use Rattle.std.specs.Prelude.{◌≡◌, ◌⊎◌, ℕ, ◌+◌, ◌<◌, Bool, false, not, List, [], ◌∷◌, ◌++◌, length, take, drop, Option, Some, None, is_some, Result, Ok, Err, IsOk, IsErr}
 use Rattle.kept_records.specs.declared.medium.Mishap.{Mishap}
 use Rattle.kept_records.specs.declared.medium.Mishap.TheVariants.{Never, Append, Cut, Read}
 use Rattle.kept_records.specs.declared.record.Record.{Record}
-use Rattle.kept_records.specs.declared.record.Record.TheVariants.{Commit, Gift, Accept, Tighten, Restart, Summary}
 use Rattle.kept_records.specs.Summary.{SummaryValue, summary_record}
+use Rattle.kept_records.specs.Kinds.{restart_told}
 use Rattle.kept_records.specs.Medium.{IsCutShort}
 use Rattle.kept_records.specs.Logs.{IsLog}
 
@@ -51,12 +51,7 @@ CutAndAppendFate (Some mishap) whole old line result new left = CutAndAppendGo m
 -- ---- what stands behind so many records (this project)
 
 abbrev pub is_restart : Record → Bool
-is_restart (Commit txn escrows) = false
-is_restart (Gift to field kind total) = false
-is_restart (Accept from field kind total) = false
-is_restart (Tighten field kind total) = false
-is_restart (Restart epoch) = true
-is_restart (Summary epoch rights gifts accepts tightenings) = false
+is_restart r = is_some (restart_told r)
 
 abbrev pub starts_with_no_restart : List Record → Bool
 starts_with_no_restart [] = false

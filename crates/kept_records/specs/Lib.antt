@@ -3,6 +3,7 @@ pub mod Media
 pub mod Summary
 pub mod Text
 pub mod Reading
+pub mod Kinds
 pub mod Logs
 pub mod Faults
 pub mod Stands

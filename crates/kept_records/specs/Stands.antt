@@ -1,5 +1,5 @@
 -- What a list of records stands for, and which lists a site may have kept. Records stand in order, the oldest first.
-use Rattle.std.specs.Prelude.{◌≡◌, ℕ, ◌+◌, ◌-◌, ◌==◌, nat_lt, nat_le, max, Bool, true, false, not, ◌&&◌, if◌then◌else◌, List, [], ◌∷◌, ◌++◌, length, filter, fold, sum_by}
+use Rattle.std.specs.Prelude.{◌≡◌, ℕ, ◌+◌, ◌-◌, ◌==◌, nat_lt, nat_le, max, Bool, true, false, not, ◌&&◌, if◌then◌else◌, List, [], ◌∷◌, ◌++◌, length, filter, fold, sum_by, Option, Some, None}
 use Rattle.std.specs.List.{list_all}
 use Rattle.field_bounds.specs.declared.kind.Kind.{Kind}
 use Rattle.field_bounds.specs.declared.kind.Kind.TheVariants.{Lower, Raise}
@@ -10,18 +10,18 @@ use Rattle.field_bounds.specs.Parts.{field_at, width_of, part_of, sum_below}
 use Rattle.field_bounds.specs.Effects.{Base, takes}
 use Rattle.kept_records.specs.declared.record.Record.{Record}
 use Rattle.kept_records.specs.declared.record.Record.TheVariants.{Commit, Gift, Accept, Tighten, Restart, Summary}
+use Rattle.kept_records.specs.Kinds.{restart_told}
 use Rattle.kept_records.specs.Summary.{SummaryValue, summary_told, summary_record, totals_of, cuts_of, rights_of, same_summary}
 
 -- ---- what records stand for
 
 -- The greatest epoch of a restart, and 0 where there is none (this project).
+abbrev pub later_of : ℕ → Option ℕ → ℕ
+later_of epoch None = epoch
+later_of epoch (Some new) = max epoch new
+
 abbrev pub later : ℕ → Record → ℕ
-later epoch (Commit txn escrows) = epoch
-later epoch (Gift to field kind total) = epoch
-later epoch (Accept from field kind total) = epoch
-later epoch (Tighten field kind total) = epoch
-later epoch (Restart new) = max epoch new
-later epoch (Summary told rights gifts accepts tightenings) = epoch
+later epoch r = later_of epoch (restart_told r)
 
 unfoldable pub greatest : List Record → ℕ
 greatest rs = fold later 0 rs

@@ -5,7 +5,7 @@ ghost use Rattle.std.specs.List.{flat_map, AllByRecursion};
 ghost use Rattle.kept_records.specs.declared.record.Record.TheVariants.{Commit, Restart};
 ghost use Rattle.kept_records.specs.Text.{text, IsRecord};
 ghost use Rattle.kept_records.specs.Medium.{AppendFate};
-ghost use Rattle.kept_records.specs.Keeping.{with_due, Appends, CutsAndAppends, CutAndAppendFate, is_restart, starts_with_no_restart};
+ghost use Rattle.kept_records.specs.Keeping.{with_due, Appends, CutsAndAppends, CutAndAppendFate, starts_with_no_restart};
 
 use crate::medium::{Device, Medium};
 use crate::record::Record;
@@ -164,20 +164,6 @@ pub fn starts_with_no_restart(records: &[Record]) -> bool
 {
     match records.first() {
         None => false,
-        Some(kept) => !is_restart(kept),
-    }
-}
-
-// Whether a record is that of a restart.
-fn is_restart(kept: &Record) -> bool
-    ensures { result ≡ is_restart kept.now }
-{
-    match kept {
-        Record::Restart { .. } => true,
-        Record::Commit { .. }
-        | Record::Gift { .. }
-        | Record::Accept { .. }
-        | Record::Tighten { .. }
-        | Record::Summary { .. } => false,
+        Some(kept) => kept.restart_told().is_none(),
     }
 }

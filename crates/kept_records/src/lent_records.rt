@@ -1,6 +1,6 @@
 //! The records at the front of bytes, one after another, of which the common ones are lent.
 
-ghost use Rattle.std.specs.Prelude.{◌≡◌, ◌<◌, ◌≤◌, List, IfOk, IfSome, OnErr, length};
+ghost use Rattle.std.specs.Prelude.{◌≡◌, ◌<◌, ◌≤◌, IfOk, IfSome, OnErr, length};
 ghost use Rattle.field_bounds.specs.declared.entry.Escrow.{Escrow};
 ghost use Rattle.kept_records.specs.Lines.{HandsLine, IsFewer};
 

@@ -1,6 +1,6 @@
 //! Reading one record.
 
-ghost use Rattle.std.specs.Prelude.{◌≡◌, ◌≤◌, ◌==◌, IfSome, position};
+ghost use Rattle.std.specs.Prelude.{◌≡◌, ◌≤◌, IfSome};
 ghost use Rattle.line_words.specs.Words.{words};
 ghost use Rattle.line_words.specs.Reading.{word_at, Gives};
 ghost use Rattle.kept_records.specs.declared.reading.LineFault.TheVariants.{NoMemory};

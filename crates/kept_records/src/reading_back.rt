@@ -203,12 +203,5 @@ pub fn plain_count(kept: &Record) -> usize
     ensures value { result ≡ length (plain (kept.now ∷ [])) }
     ensures few { result ≤ 1 }
 {
-    match kept {
-        Record::Summary { .. } => 0,
-        Record::Commit { .. }
-        | Record::Gift { .. }
-        | Record::Accept { .. }
-        | Record::Tighten { .. }
-        | Record::Restart { .. } => 1,
-    }
+    if kept.is_summary() { 0 } else { 1 }
 }

@@ -1,7 +1,11 @@
 //! What a record is.
 
-ghost use Rattle.std.specs.Prelude.{◌≡◌};
+ghost use Rattle.std.specs.Prelude.{◌≡◌, false, IfSome, IfNone};
+ghost use Rattle.kept_records.specs.Kinds.{commit_told, restart_told};
+ghost use Rattle.kept_records.specs.Stands.{is_summary, later};
+ghost use Rattle.kept_records.specs.Summary.{summary_record};
 
+use crate::summary::Summary;
 use crate::total::{Cuts, OwnRights, Totals};
 use field_bounds::{Escrow, FieldNo, Kind, SiteNo, TxnId};
 use std::marker::Model;
@@ -100,4 +104,84 @@ pub enum Record {
         accepts: Totals,
         tightenings: Cuts,
     },
+}
+
+impl Record {
+    /// The transaction that the record commits: None where it is no commit. Costs no memory.
+    #[inline(always)]
+    pub fn commit_told(&self) -> Option<TxnId>
+        ensures value { result ≡ commit_told self.now }
+    {
+        match self {
+            Record::Commit { txn, .. } => Some(*txn),
+            Record::Gift { .. }
+            | Record::Accept { .. }
+            | Record::Tighten { .. }
+            | Record::Restart { .. }
+            | Record::Summary { .. } => None,
+        }
+    }
+
+    /// The epoch in which the site restarted: None where the record tells of no restart. Costs no
+    /// memory.
+    #[inline(always)]
+    pub fn restart_told(&self) -> Option<u32>
+        ensures value { result ≡ restart_told self.now }
+    {
+        match self {
+            Record::Restart { epoch } => Some(*epoch),
+            Record::Commit { .. }
+            | Record::Gift { .. }
+            | Record::Accept { .. }
+            | Record::Tighten { .. }
+            | Record::Summary { .. } => None,
+        }
+    }
+
+    /// The epoch of a site behind the record, where it was this one before. Costs no memory.
+    #[inline(always)]
+    pub fn epoch_behind(&self, epoch: u32) -> u32
+        ensures value { result ≡ later epoch self.now }
+    {
+        match self.restart_told() {
+            Some(new) => epoch.max(new),
+            None => epoch,
+        }
+    }
+
+    /// Whether the record is a summary, which tells nothing new. Costs no memory.
+    #[inline(always)]
+    pub fn is_summary(&self) -> bool
+        ensures value { result ≡ is_summary self.now }
+    {
+        match self {
+            Record::Summary { .. } => true,
+            Record::Commit { .. }
+            | Record::Gift { .. }
+            | Record::Accept { .. }
+            | Record::Tighten { .. }
+            | Record::Restart { .. } => false,
+        }
+    }
+
+    /// The summary that the record is: None where it is another. Costs no memory.
+    pub fn into_summary(self) -> Option<Summary>
+        ensures some { IfSome result (λ base. summary_record base ≡ self) }
+        ensures none { IfNone result (is_summary self ≡ false) }
+    {
+        match self {
+            Record::Summary {
+                epoch,
+                rights,
+                gifts,
+                accepts,
+                tightenings,
+            } => Some(Summary::new(epoch, rights, gifts, accepts, tightenings)),
+            Record::Commit { .. }
+            | Record::Gift { .. }
+            | Record::Accept { .. }
+            | Record::Tighten { .. }
+            | Record::Restart { .. } => None,
+        }
+    }
 }

@@ -1,6 +1,6 @@
 //! Records of the common kinds, read straight from the bytes that begin with their text.
 
-ghost use Rattle.std.specs.Prelude.{◌≡◌, ◌≤◌, ◌++◌, ◌∷◌, [], if◌then◌else◌, ℤ, pos, unsigned_abs, IfSome};
+ghost use Rattle.std.specs.Prelude.{◌≡◌, ◌≤◌, ◌++◌, ◌∷◌, [], if◌then◌else◌, IfSome};
 ghost use Rattle.field_bounds.specs.Owed.{max_change};
 ghost use Rattle.std.specs.Fmt.{decimal, signed_decimal};
 ghost use Rattle.std.specs.List.{AllByRecursion};

@@ -2,7 +2,7 @@
 //! function that does nothing. They are of site 0 of two: of a field from 0 to 100 at 40, it has 20
 //! rights to lower and 30 to raise it.
 
-ghost use Rattle.std.specs.Prelude.{◌≡◌, ℕ, List, [], ◌∷◌, take};
+ghost use Rattle.std.specs.Prelude.{◌≡◌, [], ◌∷◌, take};
 ghost use Rattle.field_bounds.specs.declared.kind.Kind.TheVariants.{Lower, Raise};
 ghost use Rattle.field_bounds.specs.declared.entry.Command.TheVariants as commands;
 ghost use Rattle.field_bounds.specs.declared.entry.Last.TheVariants.{Nothing, Kept, Lost};

@@ -3,7 +3,7 @@ use Rattle.std.specs.Prelude.{◌≡◌, ℕ, ◌+◌, ◌&&◌, not, Bool, true
 use Rattle.std.specs.List.{flat_map, list_all}
 use Rattle.field_bounds.specs.declared.id.TxnId.{TxnId}
 use Rattle.kept_records.specs.declared.record.Record.{Record}
-use Rattle.kept_records.specs.declared.record.Record.TheVariants.{Commit, Gift, Accept, Tighten, Restart, Summary}
+use Rattle.kept_records.specs.Kinds.{commit_told}
 use Rattle.kept_records.specs.Text.{text}
 use Rattle.kept_records.specs.Stands.{plain}
 use Rattle.log_head.specs.declared.gone.Gone.{Gone}
@@ -20,13 +20,12 @@ records_told None = 0
 records_told (Some gone) = gone.records
 
 -- The record may be gone by the horizon: it is no commit, or the horizon has passed it.
+abbrev pub has_passed : HorizonValue → Option TxnId → Bool
+has_passed h None = true
+has_passed h (Some txn) = is_passed h txn
+
 abbrev pub may_go : HorizonValue → Record → Bool
-may_go h (Commit txn escrows) = is_passed h txn
-may_go h (Gift to field kind total) = true
-may_go h (Accept from field kind total) = true
-may_go h (Tighten field kind total) = true
-may_go h (Restart epoch) = true
-may_go h (Summary epoch rights gifts accepts tightenings) = true
+may_go h r = has_passed h (commit_told r)
 
 -- The horizon tells rightly of these records that they are gone.
 abbrev pub all_may_go : HorizonValue → List Record → Bool

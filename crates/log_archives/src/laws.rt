@@ -1,6 +1,6 @@
 //! Laws of parts that join, each as the contract of a function that does nothing.
 
-ghost use Rattle.std.specs.Prelude.{◌≡◌, ◌++◌, [], None, Some, ℕ, List, Option};
+ghost use Rattle.std.specs.Prelude.{◌++◌, [], None, ℕ, List, Option};
 ghost use Rattle.field_bounds.specs.Schema.{SchemaValue};
 ghost use Rattle.kept_records.specs.declared.record.Record.{Record as Kept};
 ghost use Rattle.kept_records.specs.Stands.{Lawful};

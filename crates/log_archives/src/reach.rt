@@ -33,13 +33,9 @@ pub(crate) fn records_told(gone: &Option<Gone>) -> u64
 pub(crate) fn may_go(horizon: &Horizon, next: &Record) -> bool
     ensures value { result ≡ may_go horizon.now next.now }
 {
-    match next {
-        Record::Commit { txn, .. } => horizon.has_passed(*txn),
-        Record::Gift { .. }
-        | Record::Accept { .. }
-        | Record::Tighten { .. }
-        | Record::Restart { .. }
-        | Record::Summary { .. } => true,
+    match next.commit_told() {
+        Some(txn) => horizon.has_passed(txn),
+        None => true,
     }
 }
 

@@ -1,6 +1,6 @@
 //! Heads, written.
 
-ghost use Rattle.std.specs.Prelude.{◌≡◌, ◌++◌, ◌∷◌, IfOk, OnOk, codes};
+ghost use Rattle.std.specs.Prelude.{◌≡◌, ◌++◌, ◌∷◌, IfOk, OnOk};
 ghost use Rattle.std.specs.Fmt.{decimal};
 ghost use Rattle.site_folder.specs.Identity.{file_name};
 ghost use Rattle.log_head.specs.Heads.{spaced, version_line, head_line, horizon_line, shortened_lines, shortened_name};

@@ -5,24 +5,23 @@ use Rattle.field_bounds.specs.declared.id.SiteNo.{SiteNo}
 use Rattle.field_bounds.specs.declared.id.FieldNo.{FieldNo}
 use Rattle.field_bounds.specs.Schema.{SchemaValue}
 use Rattle.kept_records.specs.declared.record.Record.{Record}
-use Rattle.kept_records.specs.declared.record.Record.TheVariants.{Commit, Gift, Accept, Tighten, Restart, Summary}
 use Rattle.kept_records.specs.declared.total.Total.{Total}
 use Rattle.kept_records.specs.declared.total.Cut.{Cut}
-use Rattle.kept_records.specs.Summary.{SummaryValue, summary_told, same_summary, rights_of, totals_of, cuts_of, told_more, cut_told_more}
+use Rattle.kept_records.specs.Kinds.{base_told}
+use Rattle.kept_records.specs.Summary.{SummaryValue, same_summary, rights_of, totals_of, cuts_of, told_more, cut_told_more}
 use Rattle.site_rights.specs.declared.field_rights.FieldRights.{FieldRights}
 use Rattle.site_rights.specs.Rights.{own_at, cut_at}
 use Rattle.gift_ledger.specs.declared.account.FieldAccounts.{FieldAccounts}
 use Rattle.gift_ledger.specs.Ledger.{account_in, LedgerValue, total_at, accepted_at}
 use Rattle.log_replay.specs.declared.standing.Standing.{Standing}
 
--- Whether a record is this summary's.
+-- Whether a summary tells this; whether a record is the summary that does.
+abbrev pub is_same : Option SummaryValue → SummaryValue → Bool
+is_same None own = false
+is_same (Some told) own = same_summary told own
+
 abbrev pub tells_same : Record → SummaryValue → Bool
-tells_same (Commit txn es) own = false
-tells_same (Gift to field kind total) own = false
-tells_same (Accept from field kind total) own = false
-tells_same (Tighten field kind total) own = false
-tells_same (Restart epoch) own = false
-tells_same (Summary epoch rights gifts accepts tightenings) own = same_summary (summary_told epoch rights gifts accepts tightenings) own
+tells_same r own = is_same (base_told r) own
 
 -- The totals given, or those accepted.
 abbrev pub side : Bool → LedgerValue → ℕ → ℕ → Kind → ℕ

@@ -5,7 +5,7 @@ ghost use Rattle.field_bounds.specs.Kind.{same_kind};
 ghost use Rattle.field_bounds.specs.Effects.{takes};
 ghost use Rattle.field_bounds.specs.Owed.{max_change};
 ghost use Rattle.kept_records.specs.declared.record.Record.{Record};
-ghost use Rattle.kept_records.specs.Stands.{is_summary, summary_of, later};
+ghost use Rattle.kept_records.specs.Stands.{is_summary, summary_of};
 ghost use Rattle.kept_records.specs.Text.{IsRecord};
 ghost use Rattle.kept_records.specs.Summary.{rights_of};
 ghost use Rattle.log_replay.specs.Resuming.{MayFollowNext};
@@ -219,20 +219,6 @@ fn own_rights_after(
     Ok(told)
 }
 
-/// The epoch with one record more.
-fn epoch_after(epoch: u32, next: &Record) -> u32
-    ensures { result ≡ later epoch next.now }
-{
-    match next {
-        Record::Restart { epoch: new } => epoch.max(*new),
-        Record::Commit { .. }
-        | Record::Gift { .. }
-        | Record::Accept { .. }
-        | Record::Tighten { .. }
-        | Record::Summary { .. } => epoch,
-    }
-}
-
 /// The summary that tells what stands after one record more, which may stand behind those that the
 /// standing is for. The standing stays as it is, rights that are held included: so the summary that
 /// is appended behind a record in one piece is there before either is. The error is want of memory.
@@ -262,7 +248,7 @@ pub fn summary_after(
         tightening_told(next),
         schema.fields(),
     )?;
-    let epoch = epoch_after(standing.epoch, next);
+    let epoch = next.epoch_behind(standing.epoch);
     Ok(Summary::new(
         epoch,
         OwnRights::new(rights),

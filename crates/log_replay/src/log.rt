@@ -40,14 +40,10 @@ pub fn take_next(
     ensures takes_in { IfOk result (λ may. TakesIn schema.now standing.old next.now may
         standing.new) }
 {
-    match next {
-        Record::Summary { .. } => tells(alloc, schema, standing, next),
-        Record::Commit { .. }
-        | Record::Gift { .. }
-        | Record::Accept { .. }
-        | Record::Tighten { .. }
-        | Record::Restart { .. } => Ok(standing.take_in(schema, next)),
+    if next.is_summary() {
+        return tells(alloc, schema, standing, next);
     }
+    Ok(standing.take_in(schema, next))
 }
 
 /// Takes in all records of a site's log, in order, from the site's parts on. `BreaksRule` is

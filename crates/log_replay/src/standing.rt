@@ -1,6 +1,6 @@
 //! What records stand for, and the step by which one more is taken in.
 
-ghost use Rattle.std.specs.Prelude.{◌≡◌, ◌<◌, ◌≤◌, ◌&&◌, ◌++◌, ◌∷◌, [], ℕ, List, true, false, IfOk, IsTrue, ◌↔◌};
+ghost use Rattle.std.specs.Prelude.{◌≡◌, ◌<◌, ◌≤◌, ◌&&◌, [], ℕ, List, true, false, IfOk, IsTrue, ◌↔◌};
 ghost use Rattle.std.specs.List.{list_all, AllByRecursion};
 ghost use Rattle.field_bounds.specs.declared.kind.Kind.{Kind};
 ghost use Rattle.field_bounds.specs.Schema.{SchemaValue};

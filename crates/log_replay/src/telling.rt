@@ -2,7 +2,7 @@
 
 ghost use Rattle.std.specs.Prelude.{◌≡◌, ◌++◌, ◌≤◌, ◌<◌, ◌≢◌, ℕ, IfOk, OnOk, List, length};
 ghost use Rattle.kept_records.specs.declared.record.Record.{Record};
-ghost use Rattle.kept_records.specs.Stands.{summary_of, may_follow};
+ghost use Rattle.kept_records.specs.Stands.{summary_of};
 ghost use Rattle.kept_records.specs.Summary.{rights_of, totals_of, totals_of_site, cuts_of, told_more, same_rights, same_totals, same_total, same_cuts, same_cut};
 ghost use Rattle.field_bounds.specs.Kind.{same_kind};
 ghost use Rattle.site_rights.specs.Rights.{own_at};

@@ -1,10 +1,9 @@
 //! How far a log has come.
 
-ghost use Rattle.std.specs.Prelude.{◌≡◌, ◌↔◌, IsTrue, IfOk};
-ghost use Rattle.kept_records.specs.Stands.{later};
+ghost use Rattle.std.specs.Prelude.{◌↔◌, IsTrue, IfOk};
 ghost use Rattle.log_stand.specs.Stand.{IsStandOf};
 
-use kept_records::{LentRecords, Record, RecordLine, by_line};
+use kept_records::{LentRecords, RecordLine, by_line};
 use std::alloc::{AllocError, Global};
 
 /// The epoch of a log's last restart, or 0, and the length of its records in bytes.
@@ -26,21 +25,6 @@ impl Stand {
     }
 }
 
-// The epoch behind a record. Once this is inlined nothing of a lent record is moved.
-#[inline(always)]
-fn later(epoch: u32, next: &Record) -> u32
-    ensures { result ≡ later epoch next.now }
-{
-    match next {
-        Record::Restart { epoch: new } => epoch.max(*new),
-        Record::Commit { .. }
-        | Record::Gift { .. }
-        | Record::Accept { .. }
-        | Record::Tighten { .. }
-        | Record::Summary { .. } => epoch,
-    }
-}
-
 /// How far a log of these bytes has come. A torn end isn't counted, nor what stands behind a line
 /// that is no record. The error is want of memory. Costs a pass over the bytes, and memory for one
 /// record at a time: for a summary, and once for the escrows of a commit.
@@ -52,11 +36,11 @@ pub fn stand_of(alloc: Global, bytes: &[u8]) -> Result<Stand, AllocError>
     by_line! { 'lines: lines.next_common(), lines.next_line(alloc)?;
         Some(told) => {
             let next = lines.whole(alloc, told);
-            epoch = later(epoch, &next);
+            epoch = next.epoch_behind(epoch);
             lines.give_back(next);
         },
         RecordLine::Record(next) => {
-            epoch = later(epoch, &next);
+            epoch = next.epoch_behind(epoch);
             lines.give_back(next);
         },
         _ => break 'lines,

@@ -1,7 +1,5 @@
 //! Commands and replies that are drawn.
 
-ghost use Rattle.std.specs.Prelude.{◌≤◌};
-
 use crate::dice::Dice;
 use field_bounds::{Command, FieldNo, Kind, Last, Refusal, Reply, SiteNo, Statement, TxnId};
 

@@ -1,5 +1,5 @@
 -- What took effect at the sites, read from a trace (this project).
-use Rattle.std.specs.Prelude.{◌≡◌, ℕ, ◌<◌, ◌==◌, Bool, true, false, not, if◌then◌else◌, List, [], ◌∷◌, length, get_or, reverse, take, drop, Option, Some, None}
+use Rattle.std.specs.Prelude.{◌≡◌, ℕ, ◌<◌, ◌==◌, Bool, true, false, not, List, ◌∷◌, length, get_or, reverse, take, drop, Option, Some, None}
 use Rattle.field_bounds.specs.declared.kind.Kind.{Kind}
 use Rattle.field_bounds.specs.declared.id.SiteNo.{SiteNo}
 use Rattle.field_bounds.specs.declared.id.FieldNo.{FieldNo}
@@ -7,7 +7,7 @@ use Rattle.field_bounds.specs.declared.entry.Reply.{Reply}
 use Rattle.field_bounds.specs.declared.entry.Entry.{Entry}
 use Rattle.field_bounds.specs.declared.effect.Effect.{Effect}
 use Rattle.field_bounds.specs.Schema.{SchemaValue}
-use Rattle.field_bounds.specs.Effects.{Base, doubt_kept_in, wanted_by, effects, after, fresh, is_to, is_for_good}
+use Rattle.field_bounds.specs.Effects.{Base, doubt_kept_in, effects, after, fresh, is_to, is_for_good}
 use Rattle.field_bounds.specs.Central.{own, at_site}
 use Rattle.field_bounds.specs.Lawful.{IsLawful}
 use Rattle.field_bounds.specs.Shape.{answered, restarted, in_doubt, stays_down, refused, shape}

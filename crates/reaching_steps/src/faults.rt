@@ -1,12 +1,9 @@
 //! What stands in the way: the first fault that holds.
 
-ghost use Rattle.std.specs.Prelude.{◌≡◌, ◌<◌, ◌≤◌, ◌+ℤ◌, ◌-ℤ◌, ◌≤ℤ◌, neg_ℤ, pos, ℕ, Bool, IfOk, length, reverse};
+ghost use Rattle.std.specs.Prelude.{◌≡◌, ◌<◌, ◌≤◌, ◌+ℤ◌, ◌-ℤ◌, ◌≤ℤ◌, neg_ℤ, pos, IfOk, length};
 ghost use Rattle.field_bounds.specs.declared.kind.Kind.TheVariants as kinds;
 ghost use Rattle.field_bounds.specs.Limits.{max_quantity};
-ghost use Rattle.field_bounds.specs.Parts.{field_at};
-ghost use Rattle.field_bounds.specs.Effects.{fresh};
 ghost use Rattle.field_bounds.specs.Owed.{max_change};
-ghost use Rattle.field_bounds.specs.Central.{own};
 ghost use Rattle.reaching_steps.specs.declared.fault.ReachFault.TheVariants as faults;
 ghost use Rattle.world_steps.specs.View.{trace_of};
 ghost use Rattle.reaching_steps.specs.Reach.{first_fault, fault_if, lies_outside, least, is_down, is_short_of, is_unstated, is_tightened, has_no_number, reach_fault};

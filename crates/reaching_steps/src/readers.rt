@@ -1,6 +1,6 @@
 //! What the next step of a trial is, read from its trace.
 
-ghost use Rattle.std.specs.Prelude.{◌≡◌, ◌<◌, ◌≤◌, ◌-ℤ◌, ◌≤ℤ◌, neg_ℤ, pos, min, IfOk, IsTrue, ◌↔◌, Some, None, if◌then◌else◌, reverse};
+ghost use Rattle.std.specs.Prelude.{◌≡◌, ◌<◌, ◌≤◌, ◌-ℤ◌, ◌≤ℤ◌, neg_ℤ, pos, min, IfOk, Some, None, if◌then◌else◌, reverse};
 ghost use Rattle.field_bounds.specs.declared.kind.Kind.TheVariants as kinds;
 ghost use Rattle.field_bounds.specs.Effects.{fresh, open_txns, share};
 ghost use Rattle.field_bounds.specs.Central.{at_site, committed_value};
@@ -8,7 +8,7 @@ ghost use Rattle.field_bounds.specs.Owed.{max_change};
 ghost use Rattle.world_steps.specs.World.{statements_issued};
 ghost use Rattle.world_steps.specs.View.{trace_of};
 ghost use Rattle.reaching_steps.specs.Body.{change_of};
-ghost use Rattle.reaching_steps.specs.Reach.{is_wanting, number_of, telling, towards, next_txn, same_value, reach_fault};
+ghost use Rattle.reaching_steps.specs.Reach.{is_wanting, number_of, telling, towards, next_txn, same_value};
 
 use crate::counts::numbers_at;
 use crate::numbering::number_of;

@@ -1,10 +1,10 @@
 //! The steps, tried one after another on a trial.
 
-ghost use Rattle.std.specs.Prelude.{◌≡◌, ◌≢◌, ◌<◌, [], ◌∷◌, IfOk, IfErr, OnOk, OnErr, All, None, Some, if◌then◌else◌};
+ghost use Rattle.std.specs.Prelude.{◌≡◌, ◌≢◌, ◌<◌, [], ◌∷◌, IfOk, IfErr, OnOk, OnErr, None, Some, if◌then◌else◌};
 ghost use Rattle.field_bounds.specs.declared.kind.Kind.TheVariants as kinds;
 ghost use Rattle.world_steps.specs.World.{StepFits, statements_issued};
 ghost use Rattle.world_steps.specs.View.{trace_of};
-ghost use Rattle.reaching_steps.specs.Reach.{is_wanting, number_of, telling, steps_of_tasks, over_sites, aborts, restates, delivers, passes_on, moves, move_tasks, tasks, reach_steps, reach_fault};
+ghost use Rattle.reaching_steps.specs.Reach.{is_wanting, number_of, telling, steps_of_tasks, over_sites, aborts, restates, delivers, passes_on, moves, move_tasks, reach_steps, reach_fault};
 ghost use Rattle.reaching_steps.specs.Body.{Explains, CarriedOut, HasReached, DoesWhereFit};
 ghost use Rattle.reaching_steps.specs.Taken.{steps_of, TookFront};
 ghost use Rattle.reaching_steps.specs.declared.fault.ReachFault.TheVariants.{NoMemory};

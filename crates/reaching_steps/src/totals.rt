@@ -1,6 +1,6 @@
 //! What a site has given, given up and accepted, by what took effect there.
 
-ghost use Rattle.std.specs.Prelude.{◌≡◌, ◌≤◌, ◌<◌, ◌∷◌, ◌+◌, ℕ, Bool, Option, max, List};
+ghost use Rattle.std.specs.Prelude.{◌≡◌, ◌≤◌, ◌<◌, ◌∷◌, ◌+◌, ℕ, Option, max, List};
 ghost use Rattle.field_bounds.specs.declared.effect.Effect.{Effect};
 ghost use Rattle.field_bounds.specs.Schema.{SchemaValue};
 ghost use Rattle.field_bounds.specs.Parts.{sum_below};

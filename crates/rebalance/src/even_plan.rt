@@ -1,6 +1,6 @@
 //! The moves that make the shares of the sites even.
 
-ghost use Rattle.std.specs.Prelude.{◌≡◌, ◌^◌, ◌<◌, ◌≤◌, ◌-◌, ◌++◌, ◌∷◌, [], ◌≢◌, ℕ, List, IfOk, OnOk, OnErr, All, length, slice_index, sum, vec_len};
+ghost use Rattle.std.specs.Prelude.{◌≡◌, ◌^◌, ◌<◌, ◌≤◌, ◌-◌, ◌++◌, ◌∷◌, [], ◌≢◌, List, IfOk, OnOk, OnErr, All, length, sum, vec_len};
 ghost use Rattle.rebalance.specs.EvenPlan.{even_plan, even_target, target, IsGift, Reaches, Settles, moved_in_all};
 ghost use Rattle.rebalance.specs.declared.even_plan.Move.{Move};
 

@@ -1,7 +1,6 @@
 //! What a line is answered with that asks nothing.
 
-ghost use Rattle.std.specs.Prelude.{◌≡◌, ◌++◌, ◌∷◌, [], length, take, codes, OnOk, OnErr};
-ghost use Rattle.std.specs.Fmt.{decimal};
+ghost use Rattle.std.specs.Prelude.{◌≡◌, ◌++◌, length, take, OnOk, OnErr};
 ghost use Rattle.request_lines.specs.BadLines.{bad_words, bad_text};
 
 use itoa::Buffer;

@@ -2,7 +2,7 @@
 
 ghost use Rattle.std.specs.Prelude.{◌≡◌};
 ghost use Rattle.line_words.specs.Words.{words};
-ghost use Rattle.request_lines.specs.LineFaults.{has_no_field, has_field_next, has_field_second, has_field_third, place_of, next_fault, second_fault, third_fault, fault_behind, fault_in};
+ghost use Rattle.request_lines.specs.LineFaults.{has_no_field, has_field_next, has_field_second, place_of, next_fault, second_fault, third_fault, fault_behind, fault_in};
 
 use crate::bad_line::BadLine;
 use entry_text::{Fields, field_at};

@@ -1,6 +1,6 @@
 //! The lines of an input, one by one, and its limits.
 
-ghost use Rattle.std.specs.Prelude.{◌≡◌, ◌≢◌, ℕ, List, ◌+◌, ◌-◌, ◌<◌, ◌≤◌, ◌⊎◌, ◌↔◌, [], ◌∷◌, ◌++◌, length, take, drop, All, true, false, IfOk, OnOk, OnErr, IfErr, IfNone, IfSome, IsTrue, Option, Ok};
+ghost use Rattle.std.specs.Prelude.{◌≡◌, ◌≢◌, ℕ, List, ◌+◌, ◌-◌, ◌<◌, ◌≤◌, ◌⊎◌, ◌↔◌, [], ◌∷◌, ◌++◌, length, take, drop, All, true, false, IfOk, OnOk, OnErr, IfErr, IfNone, IsTrue, Option, Ok};
 ghost use Rattle.field_bounds.specs.Header.{schema_of};
 ghost use Rattle.script_input.specs.declared.streams.CallEnd.{CallEnd};
 ghost use Rattle.script_input.specs.Streams.{HasFailed};

@@ -1,6 +1,6 @@
 //! Reads of bytes in memory.
 
-ghost use Rattle.std.specs.Prelude.{◌≡◌, ◌≤◌, ◌<◌, ◌+◌, Some, length, min};
+ghost use Rattle.std.specs.Prelude.{◌≡◌, ◌≤◌, ◌<◌, ◌+◌, Some, length};
 ghost use Rattle.file_medium.specs.Files.{ReadsAt};
 
 /// Copies the bytes behind the first `at`, as many as there are and as the buffer has room for, and

@@ -1,7 +1,6 @@
 //! A copy of what is gone.
 
 ghost use Rattle.std.specs.Prelude.{◌≡◌, IfSome};
-ghost use Rattle.log_head.specs.Horizons.{HorizonValue};
 
 use log_head::{Gone, Horizon};
 use std::alloc::Global;

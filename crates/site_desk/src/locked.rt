@@ -1,7 +1,7 @@
 //! The locked value: a site and the book of its calls. No other module makes a receipt or raises a
 //! pass's count.
 
-ghost use Rattle.std.specs.Prelude.{◌≡◌, ◌≢◌, ℕ, ◌+◌, ◌<◌, ◌≤◌, ◌↔◌, ◌∷◌, ◌++◌, [], length, true, List, IfOk, IfErr, OnErr, OnOk, MatchResult, IsTrue, vec_len, reverse};
+ghost use Rattle.std.specs.Prelude.{◌≡◌, ◌+◌, ◌<◌, ◌↔◌, [], length, IfOk, IfErr, OnErr, IsTrue, vec_len, reverse};
 ghost use Rattle.site_desk.specs.Faults.{FailsAt};
 ghost use Rattle.site_desk.specs.Passes.{AreNew, calls_of, Settles};
 ghost use Rattle.site_desk.specs.Receipts.{Counts, Serves};

@@ -2,7 +2,6 @@
 
 ghost use Rattle.std.specs.Prelude.{◌≡◌, ◌<◌, ◌≤◌, ◌↔◌, None, Some, IfSome, IfNone, IfOk, IfErr, OnOk, IsTrue, option_map, string_bytes};
 ghost use Rattle.sha2.specs.Sha256.{sha256};
-ghost use Rattle.field_bounds.specs.Limits.{IsSchema};
 ghost use Rattle.site_folder.specs.Identity.{IsOneLine, IsWorldName, IsNamed, IsIdentity, is_name_byte, line_then, world_text, world_digest, world_name};
 ghost use Rattle.site_folder.specs.Reading.{Makes, MakesNone};
 

@@ -1,5 +1,5 @@
 -- What the calls of a session do.
-use Rattle.std.proofs.Common.{◌≡◌, ℕ, List, [], ◌++◌, codes, Option, Some, None, refl, sym, ap, ◌∙◌, subst}
+use Rattle.std.proofs.Common.{◌≡◌, ℕ, List, [], ◌++◌, codes, Option, Some, None, refl, ap, ◌∙◌, subst}
 use Rattle.field_bounds.specs.Schema.{SchemaValue}
 use Rattle.field_bounds.specs.declared.id.SiteNo.{SiteNo}
 use Rattle.field_bounds.specs.declared.entry.Command.{Command}
@@ -47,7 +47,7 @@ nothing_found : (reply : Reply) (rs : List Record) (doubt : Option ℕ) (rest : 
 nothing_found reply rs doubt rest clear over epoch found is =
     (subst (λ (r : Reply). RestartsOver r rs doubt rest) is over).1 ∙ ap (λ (d : Option ℕ). found_of d rs) clear
 
-module _ (schema : SchemaValue) (before later : SiteValue) (command : Command) (reply : Reply) (sound : IsSoundSession schema before)
+module _ (before later : SiteValue) (command : Command) (reply : Reply) (sound : IsSoundSession before)
     (applies : Applies before command reply later) where
   sure : IsSure reply
   sure = call_is_sure before later sound.whole.records [] command reply sound.whole.log sound.whole.never applies
@@ -64,28 +64,24 @@ module _ (schema : SchemaValue) (before later : SiteValue) (command : Command) (
   }
 
   -- a session whose site went on
-  pub sound_by : IsSoundSession schema later
+  pub sound_by : IsSoundSession later
   sound_by = record {
-    own = sound.own ∙ sym applies.same.schema;
     whole = answers_by.grows.whole;
     clear = logs.doubt ∙ clear_after reply sound.whole.records before.doubt sure sound.clear;
   }
 
--- a session over whole lines, of a copy of the schema and of the bytes
-pub opened_by : (schema own : SchemaValue) (number : SiteNo) (lines bytes : List ℕ) (site : SiteValue) → own ≡ schema → bytes ≡ lines
-    → last_part lines ≡ [] → Opens own number bytes 0 site → site.foretold ≡ Some Never → site.gone ≡ []
-    → IsSoundSession schema site
-opened_by schema own number lines bytes site same copied whole opens never none_gone =
-    let here : Opens schema number lines 0 site = subst (λ (held : List ℕ). Opens schema number held 0 site) copied
-    (subst (λ (s : SchemaValue). Opens s number bytes 0 site) same opens) in
-    record { own = sym here.schema; whole = whole_opened schema number lines 0 site here whole never none_gone; clear = here.doubt }
+-- a session over whole lines, of a copy of the bytes
+pub opened_by : (schema : SchemaValue) (number : SiteNo) (lines bytes : List ℕ) (site : SiteValue) → bytes ≡ lines → last_part lines ≡ []
+    → Opens schema number bytes 0 site → site.foretold ≡ Some Never → site.gone ≡ [] → IsSoundSession site
+opened_by schema number lines bytes site copied whole opens never none_gone =
+    let here : Opens schema number lines 0 site = subst (λ (held : List ℕ). Opens schema number held 0 site) copied opens in
+    record { whole = whole_opened schema number lines 0 site here whole never none_gone; clear = here.doubt }
 
--- the first bad line, by copies
-pub bad_by : (schema own : SchemaValue) (s : ℕ) (lines bytes : List ℕ) (fault : OpenFault) (n : ℕ) → own ≡ schema → bytes ≡ lines
-    → fault ≡ Line n → TellsLine own s bytes fault → IsFirstBad schema s lines n
-bad_by schema own s lines bytes fault n same copied is tells =
-    subst (λ (held : List ℕ). IsFirstBad schema s held n) copied
-    (subst (λ (it : SchemaValue). IsFirstBad it s bytes n) same (subst (λ (f : OpenFault). TellsLine own s bytes f) is tells))
+-- the first bad line, by a copy
+pub bad_by : (schema : SchemaValue) (s : ℕ) (lines bytes : List ℕ) (fault : OpenFault) (n : ℕ) → bytes ≡ lines
+    → fault ≡ Line n → TellsLine schema s bytes fault → IsFirstBad schema s lines n
+bad_by schema s lines bytes fault n copied is tells =
+    subst (λ (held : List ℕ). IsFirstBad schema s held n) copied (subst (λ (f : OpenFault). TellsLine schema s bytes f) is tells)
 
 -- the line that asks a command, an arrow and the reply are the entry's text
 pub told_by : (before later : SiteValue) (line : List ℕ) (command : Command) (reply : Reply) (none text : List ℕ)

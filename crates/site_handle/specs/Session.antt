@@ -21,9 +21,8 @@ use Rattle.site_handle.specs.declared.fault.OpeningFault.TheVariants as openings
 use Rattle.site_handle.specs.declared.fault.CallFault.{CallFault}
 use Rattle.site_handle.specs.declared.fault.CallFault.TheVariants as calls
 
--- What holds of every session: its schema is the site's, the log is whole lines, of which none is gone, and no answer is in doubt.
-pub record IsSoundSession (schema : SchemaValue) (v : SiteValue) : Type 0 where
-  pub own : schema ≡ v.schema
+-- What holds of every session: the log is whole lines, of which none is gone, and no answer is in doubt.
+pub record IsSoundSession (v : SiteValue) : Type 0 where
   pub whole : IsWhole v
   pub clear : v.doubt ≡ None
 

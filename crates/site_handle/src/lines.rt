@@ -1,7 +1,6 @@
 //! What the bytes that a host gives are.
 
-ghost use Rattle.std.specs.Prelude.{◌≡◌, ◌≤◌, ◌<◌, ◌⊎◌, ◌↔◌, length, take, drop, IsTrue, IfOk, IfErr};
-ghost use Rattle.entry_text.specs.Lines.{max_line};
+ghost use Rattle.std.specs.Prelude.{◌≤◌, ◌<◌, length, take, drop, IsTrue, IfOk, IfErr};
 ghost use Rattle.request_lines.specs.Requests.{Asks};
 ghost use Rattle.site_service.specs.Opening.{AreLines};
 ghost use Rattle.site_handle.specs.Lines.{IsNoLine, IsUnasked};

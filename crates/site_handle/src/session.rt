@@ -19,15 +19,13 @@ use site_step::{OpenFault, Site};
 use std::alloc::{AllocError, Global};
 use std::marker::Model;
 
-/// A site that is held for a host, and the schema by which its lines are read. Its medium is the
-/// log in memory, which never fails: no answer is in doubt, and no restart fails. It keeps no
-/// history, so it grows by its log alone. Contracts see the site. At all times the log is whole
+/// A site that is held for a host. Its medium is the log in memory, which never fails: no answer is
+/// in doubt, and no restart fails. It keeps no history, so it grows by its log alone. Contracts see the site. At all times the log is whole
 /// lines.
 ///
 /// Source: this project.
 #[derive(Drop)]
 pub struct Session {
-    schema: Schema,
     site: Site<MemoryMedium, GhostHistory<Entry>>,
 }
 
@@ -39,7 +37,7 @@ impl Model for Session {
 
     ghost view = { λ s. s.site };
 
-    ghost invariant = { λ s. IsSoundSession s.schema s.site };
+    ghost invariant = { λ s. IsSoundSession s.site };
 }
 
 /// A session, and how many bytes of the log it stands on.
@@ -73,10 +71,9 @@ fn open_lines(
     ensures ok { IfOk result (Opens schema number lines.now 0) }
     ensures err { IfErr result (TellsBadLine schema number.0 lines.now) }
 {
-    let own = schema.copy()?;
     let medium = MemoryMedium::new(Vec::from_slice(alloc, lines)?);
-    match Site::open_with(alloc, own, number, medium) {
-        Ok(site) => Ok(Session { schema, site }),
+    match Site::open_with(alloc, schema, number, medium) {
+        Ok(site) => Ok(Session { site }),
         Err((OpenFault::Line(line), _)) => Err(OpeningFault::Line(line)),
         Err((_, _)) => Err(OpeningFault::NoMemory),
     }
@@ -146,7 +143,7 @@ impl Session {
         ensures ok { IfOk result (Asks self.now.schema self.now.site line.now) }
         ensures err { IfErr result (IsUnasked self.now.schema self.now.site line.now) }
     {
-        command_in(&self.schema, self.site.site(), line)
+        command_in(self.site.schema(), self.site.site(), line)
     }
 
     /// Carries out the command that a line asks, without its LF. At a fault the site is as it was.

@@ -55,42 +55,37 @@ stands_behind schema number held count v opens whole never each =
       parts = more.1;
     }
 
--- ---- by a copy of the schema and of the bytes, behind the records that the base may stand behind by its numbers
+-- ---- by a copy of the bytes, behind the records that the base may stand behind by its numbers
 
-module _ (schema own : SchemaValue) (number : SiteNo) (held bytes : List ℕ) (base : SummaryValue) (same : own ≡ schema) (copied : bytes ≡ held)
+module _ (schema : SchemaValue) (number : SiteNo) (held bytes : List ℕ) (base : SummaryValue) (copied : bytes ≡ held)
     (first : StartsWith held base) (past : IsPast schema number.0 base (past_of schema number.0 base)) where
-  pub opens_base : (v : SiteValue) → Opens own number (flat_map text (past_of own number.0 base) ++ bytes) 0 v
-      → v.gone ≡ past_of own number.0 base → OpensBehind schema number held v
-  opens_base v opens gone =
-      let is : v.gone ≡ past_of schema number.0 base = gone ∙ ap (λ (s : SchemaValue). past_of s number.0 base) same in
-      record {
-        base = base;
-        first = first;
-        past = subst (IsPast schema number.0 base) (sym is) past;
-        opens = subst (λ (s : SchemaValue). Opens s number (flat_map text v.gone ++ held) 0 v) same
-            (subst (λ (b : List ℕ). Opens own number (flat_map text v.gone ++ b) 0 v) copied
-            (subst (λ (rs : List Record). Opens own number (flat_map text rs ++ bytes) 0 v) (sym gone) opens));
-      }
+  pub opens_base : (v : SiteValue) → Opens schema number (flat_map text (past_of schema number.0 base) ++ bytes) 0 v
+      → v.gone ≡ past_of schema number.0 base → OpensBehind schema number held v
+  opens_base v opens gone = record {
+    base = base;
+    first = first;
+    past = subst (IsPast schema number.0 base) (sym gone) past;
+    opens = subst (λ (b : List ℕ). Opens schema number (flat_map text v.gone ++ b) 0 v) copied
+        (subst (λ (rs : List Record). Opens schema number (flat_map text rs ++ bytes) 0 v) (sym gone) opens);
+  }
 
-  pub bad_behind : (fault : OpenFault) → TellsLineBehind own number.0 (past_of own number.0 base) bytes fault
-      → SparesLogsBehind own number.0 (past_of own number.0 base) bytes fault → IsBadBehind schema number held fault
+  pub bad_behind : (fault : OpenFault) → TellsLineBehind schema number.0 (past_of schema number.0 base) bytes fault
+      → SparesLogsBehind schema number.0 (past_of schema number.0 base) bytes fault → IsBadBehind schema number held fault
   bad_behind (Line n) tells spares = inr (record {
     base = base;
     first = first;
     past = past_of schema number.0 base;
     is_past = past;
-    tells = subst (λ (b : List ℕ). TellsLineBehind schema number.0 (past_of schema number.0 base) b (Line n)) copied
-        (subst (λ (s : SchemaValue). TellsLineBehind s number.0 (past_of s number.0 base) bytes (Line n)) same tells);
-    spares = subst (λ (b : List ℕ). SparesLogsBehind schema number.0 (past_of schema number.0 base) b (Line n)) copied
-        (subst (λ (s : SchemaValue). SparesLogsBehind s number.0 (past_of s number.0 base) bytes (Line n)) same spares);
+    tells = subst (λ (b : List ℕ). TellsLineBehind schema number.0 (past_of schema number.0 base) b (Line n)) copied tells;
+    spares = subst (λ (b : List ℕ). SparesLogsBehind schema number.0 (past_of schema number.0 base) b (Line n)) copied spares;
   })
   bad_behind Device tells spares = tt
   bad_behind NoMemory tells spares = tt
 
-pub early_gone : (own : SchemaValue) (number : SiteNo) (base : SummaryValue) (gone : List Record) → gone ≡ past_of own number.0 base
+pub early_gone : (schema : SchemaValue) (number : SiteNo) (base : SummaryValue) (gone : List Record) → gone ≡ past_of schema number.0 base
     → (txn : TxnId) → has_commit txn gone ≡ true → txn.epoch ≡ 0
-early_gone own number base gone is txn has =
-    early_commit (past_of own number.0 base) txn (past_early own number.0 base) (sym (ap (has_commit txn) is) ∙ has)
+early_gone schema number base gone is txn has =
+    early_commit (past_of schema number.0 base) txn (past_early schema number.0 base) (sym (ap (has_commit txn) is) ∙ has)
 
 -- ---- what is told
 

@@ -43,13 +43,13 @@ all_of bytes = take_all (length bytes) bytes (omega arith)
 pub settled_text : (v : ServiceValue) → IsSettled v → HoldsText v.safe v.served.last (held_in v.served)
 settled_text v settled = record { text = settled.text; copy = settled.safe; is = settled.is }
 
-module _ (schema : SchemaValue) (site : SiteValue) (last : LastNotes) (told : Option Gone) (lines : ℕ) (waiting : List ℕ) (log safe : Option (List ℕ))
+module _ (site : SiteValue) (last : LastNotes) (told : Option Gone) (lines : ℕ) (waiting : List ℕ) (log safe : Option (List ℕ))
     (least : Option ℕ) (settled : ℕ) (lost : Bool) (kept : KeptCommits) (unlogged : List ℕ)
-    (sound : IsSoundService schema site (value_of site last told lines waiting log safe least settled lost) kept unlogged) where
+    (sound : IsSoundService site (value_of site last told lines waiting log safe least settled lost) kept unlogged) where
   -- the site goes on, and lines are answered
   pub sound_grows : (later : SiteValue) (now : LastNotes) (more : ℕ) (text : List ℕ) (set : KeptCommits) (new : List ℕ) → GoesOn site later
       → IsIndexOf set (held_of later) → ((notes : List KeyNote) → IsBehind notes unlogged last → IsBehind notes new now)
-      → IsSoundService schema later (value_of later now told more text log safe least settled lost) set new
+      → IsSoundService later (value_of later now told more text log safe least settled lost) set new
   sound_grows later now more text set new grows index noting =
       let link = sound.linked in
       let behind = noting link.notes (record { more = link.more; lines = sound.noting; tells = link.tells }) in
@@ -58,7 +58,6 @@ module _ (schema : SchemaValue) (site : SiteValue) (last : LastNotes) (told : Op
       ap (take settled) grown ∙ take-append-le settled (held_of site) grows.added link.within in
       record {
         linked = record {
-          own = link.own ∙ sym grows.schema;
           stands = grows.stands;
           let_go = subst (λ (rs : List Record). IsTold (let_go_of rs told)) (sym grows.gone) link.let_go;
           within = omega (arith, link.within, ap length grown, length-append (held_of site) grows.added);
@@ -76,12 +75,11 @@ module _ (schema : SchemaValue) (site : SiteValue) (last : LastNotes) (told : Op
       }
 
   -- what waits is another text
-  pub sound_waits : (text : List ℕ) → IsSoundService schema site (value_of site last told lines text log safe least settled lost) kept unlogged
+  pub sound_waits : (text : List ℕ) → IsSoundService site (value_of site last told lines text log safe least settled lost) kept unlogged
   sound_waits text =
       let link = sound.linked in
       record {
         linked = record {
-          own = link.own;
           stands = link.stands;
           let_go = link.let_go;
           within = link.within;
@@ -100,17 +98,16 @@ module _ (schema : SchemaValue) (site : SiteValue) (last : LastNotes) (told : Op
 
   -- more of the medium was looked at
   pub sound_looked : (set : KeptCommits) → IsIndexOf set (held_of site)
-      → IsSoundService schema site (value_of site last told lines waiting log safe least settled lost) set unlogged
+      → IsSoundService site (value_of site last told lines waiting log safe least settled lost) set unlogged
   sound_looked set index = record { linked = sound.linked; index = index; noting = sound.noting }
 
   -- a call of the file has failed
   pub sound_lost : (fewest : Option ℕ) (other now : Option (List ℕ))
-      → IsSoundService schema site (value_of site last told lines waiting other now fewest settled true) kept unlogged
+      → IsSoundService site (value_of site last told lines waiting other now fewest settled true) kept unlogged
   sound_lost fewest other now =
       let link = sound.linked in
       record {
         linked = record {
-          own = link.own;
           stands = link.stands;
           let_go = link.let_go;
           within = link.within;
@@ -129,12 +126,11 @@ module _ (schema : SchemaValue) (site : SiteValue) (last : LastNotes) (told : Op
 
   -- the file is as it was
   pub sound_put : (other now : Option (List ℕ)) (fewest : Option ℕ) → other ≡ log → now ≡ safe → fewest ≡ least
-      → IsSoundService schema site (value_of site last told lines waiting other now fewest settled lost) kept unlogged
+      → IsSoundService site (value_of site last told lines waiting other now fewest settled lost) kept unlogged
   sound_put other now fewest same_log same_safe same_least =
       let link = sound.linked in
       record {
         linked = record {
-          own = link.own;
           stands = link.stands;
           let_go = link.let_go;
           within = link.within;
@@ -178,14 +174,13 @@ module _ (schema : SchemaValue) (site : SiteValue) (last : LastNotes) (told : Op
   -- the log has got all
   pub sound_follows : (later : LastNotes) (fewest : Option ℕ) (grown now : Option (List ℕ)) (all : ℕ) (none : List ℕ) → later ≡ last
       → lost ≡ false → grown ≡ append_known (append_known log unlogged) (drop settled (held_of site)) → now ≡ grown → all ≡ length (held_of site)
-      → none ≡ [] → IsSoundService schema site (value_of site later told lines waiting grown now fewest all lost) kept none
+      → none ≡ [] → IsSoundService site (value_of site later told lines waiting grown now fewest all lost) kept none
   sound_follows later fewest grown now all none same fine is kept_all size empty =
       let link = sound.linked in
       let copy : IsCopyOf grown grown_text = subst (λ (k : Option (List ℕ)). IsCopyOf k grown_text) (sym is) (grown_copy fine) in
       let taken : take all (held_of site) ≡ (held_of site) = ap (λ n. take n (held_of site)) size ∙ all_of (held_of site) in
       record {
         linked = record {
-          own = link.own;
           stands = link.stands;
           let_go = link.let_go;
           within = omega (arith, size);
@@ -284,16 +279,14 @@ copy_safe (Some xs) text copy = ([], copy ∙ sym (append-nil text))
 -- ---- a log that was read
 
 -- a new service over what was read
-pub sound_opened : (schema : SchemaValue) (site : SiteValue) (last : LastNotes) (told : Option Gone) (lines : ℕ) (waiting : List ℕ)
-    (log safe : Option (List ℕ)) (least : Option ℕ) (settled : ℕ) (kept : KeptCommits) (unlogged : List ℕ) → site.schema ≡ schema
-    → StandsOnHeld site → IsTold (let_go_of site.gone told) → settled ≡ length (held_of site) → IsFollowed log safe last (held_of site)
+pub sound_opened : (site : SiteValue) (last : LastNotes) (told : Option Gone) (lines : ℕ) (waiting : List ℕ)
+    (log safe : Option (List ℕ)) (least : Option ℕ) (settled : ℕ) (kept : KeptCommits) (unlogged : List ℕ) → StandsOnHeld site → IsTold (let_go_of site.gone told) → settled ≡ length (held_of site) → IsFollowed log safe last (held_of site)
     → IsIndexOf kept (held_of site) → unlogged ≡ []
-    → IsSoundService schema site (value_of site last told lines waiting log safe least settled false) kept unlogged
-sound_opened schema site last told lines waiting log safe least settled kept unlogged own stands let_go size follows index none =
+    → IsSoundService site (value_of site last told lines waiting log safe least settled false) kept unlogged
+sound_opened site last told lines waiting log safe least settled kept unlogged stands let_go size follows index none =
     let all : take settled (held_of site) ≡ held_of site = ap (λ n. take n (held_of site)) size ∙ all_of (held_of site) in
     record {
       linked = record {
-        own = sym own;
         stands = stands;
         let_go = let_go;
         within = omega (arith, size);

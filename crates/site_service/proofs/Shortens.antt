@@ -2,7 +2,6 @@
 use Rattle.std.proofs.Common.{◌≡◌, ◌⊎◌, ◌||◌, ℕ, Bool, true, false, List, [], ◌∷◌, ◌++◌, length, take, Option, None, Some, refl, sym, ap, ◌∙◌, subst, inl, inr, arith, append_assoc, append-nil}
 use Rattle.std.proofs.lemmas.List.{append_cancel_left, take_all}
 use Rattle.std.proofs.lemmas.List.Folds.{list_any-append}
-use Rattle.field_bounds.specs.Schema.{SchemaValue}
 use Rattle.kept_records.specs.declared.record.Record.{Record}
 use Rattle.kept_records.specs.Summary.{summary_record}
 use Rattle.kept_records.proofs.Lines.{same_log}
@@ -128,7 +127,7 @@ module _ (site : SiteValue) (last : LastNotes) (told : Option Gone) (lines : ℕ
     pub spares_open : SparesOpen (served_of site last told lines) (served_of later shorter.keys.last (Some shorter.told) lines)
     spares_open = made.spares
 
-    module _ (schema : SchemaValue) (own : schema ≡ site.schema) (waiting : List ℕ) (log safe : Option (List ℕ)) (least : Option ℕ)
+    module _ (waiting : List ℕ) (log safe : Option (List ℕ)) (least : Option ℕ)
         (size : ℕ) (size_is : size ≡ length plan.held) (lost : Bool) (log_copy : IsCopyOf log text) (safe_copy : IsCopyOf safe text) where
       abbrev now : SiteValue → ServiceValue
       now v = value_of v shorter.keys.last (Some shorter.told) lines waiting log safe least size lost
@@ -136,10 +135,9 @@ module _ (site : SiteValue) (last : LastNotes) (told : Option Gone) (lines : ℕ
       taken : take size (held_of shorter_site) ≡ plan.held
       taken = ap (take size) later_held ∙ take_all size plan.held (omega (arith, size_is))
 
-      sound_here : IsSoundService schema shorter_site (now shorter_site) shorter.kept shorter.keys.lines
+      sound_here : IsSoundService shorter_site (now shorter_site) shorter.kept shorter.keys.lines
       sound_here = record {
         linked = record {
-          own = own;
           stands = later_stands;
           let_go = later_told;
           within = omega (arith, size_is, ap length later_held);
@@ -156,8 +154,8 @@ module _ (site : SiteValue) (last : LastNotes) (told : Option Gone) (lines : ℕ
         noting = record { each = tt; lines = made.none };
       }
 
-      pub sound_shorter : IsSoundService schema later (now later) shorter.kept shorter.keys.lines
-      sound_shorter = subst (λ (v : SiteValue). IsSoundService schema v (now v) shorter.kept shorter.keys.lines) (sym same) sound_here
+      pub sound_shorter : IsSoundService later (now later) shorter.kept shorter.keys.lines
+      sound_shorter = subst (λ (v : SiteValue). IsSoundService v (now v) shorter.kept shorter.keys.lines) (sym same) sound_here
 
       settled_here : lost ≡ false → IsSettled (now shorter_site)
       settled_here fine = record { sound = fine; text = text; is = text_is; log = log_copy; safe = safe_copy }

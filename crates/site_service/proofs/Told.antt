@@ -5,7 +5,7 @@ use Rattle.field_bounds.specs.declared.id.SiteNo.{SiteNo}
 use Rattle.field_bounds.specs.declared.entry.Command.{Command}
 use Rattle.field_bounds.specs.declared.entry.Command.TheVariants.{Commit}
 use Rattle.field_bounds.specs.declared.entry.Reply.{Reply}
-use Rattle.entry_text.specs.Spelling.{entry_text}
+use Rattle.entry_text.specs.Spelling.{command_text, entry_text}
 use Rattle.entry_text.specs.Lines.{max_line}
 use Rattle.kept_records.specs.declared.record.Record.{Record}
 use Rattle.site_step.specs.Site.{SiteValue, Applies}
@@ -32,10 +32,18 @@ pub any_err : {T E : Type 0} (r : Result T E) (P : Type 0) → P → OnErr r P
 any_err (Ok x) P p = tt
 any_err (Err e) P p = p
 
--- a commit with a key with another name for the number
-pub spells : (schema : SchemaValue) (number site : SiteNo) (line : List ℕ) (commit : KeyedCommit) → number ≡ site
-    → SpellsCommit schema number line commit → SpellsCommit schema site line commit
-spells schema number site line commit is = subst (λ (n : SiteNo). SpellsCommit schema n line commit) is
+-- a commit with a key with another name for the schema and the number
+pub spells : (schema : SchemaValue) (number : SiteNo) (old : SiteValue) (line : List ℕ) (commit : KeyedCommit) → schema ≡ old.schema
+    → number ≡ old.site → SpellsCommit schema number line commit → SpellsCommit old.schema old.site line commit
+spells schema number old line commit own is spelled =
+    subst (λ (n : SiteNo). SpellsCommit old.schema n line commit) is (subst (λ (s : SchemaValue). SpellsCommit s number line commit) own spelled)
+
+-- a command's line with another name for the schema and the number
+pub spells_as : (schema : SchemaValue) (number : SiteNo) (old : SiteValue) (line : List ℕ) (command : Command) → schema ≡ old.schema
+    → number ≡ old.site → line ≡ command_text old.schema old.site command → line ≡ command_text schema number command
+spells_as schema number old line command own is spelled =
+    spelled ∙ ap (λ (s : SchemaValue). command_text s old.site command) (sym own)
+    ∙ ap (λ (n : SiteNo). command_text schema n command) (sym is)
 
 -- no is answered where no commit is kept
 none_kept : (told : Option Gone) (since kept : Option TxnId) → key_answer told since kept ≡ No → kept ≡ None

@@ -6,7 +6,6 @@ use Rattle.field_bounds.specs.declared.id.TxnId.{TxnId}
 use Rattle.kept_records.specs.declared.record.Record.{Record}
 use Rattle.kept_records.specs.Logs.{IsLog}
 use Rattle.site_service.specs.declared.kept.KeptCommits.{KeptCommits}
-use Rattle.field_bounds.specs.Schema.{SchemaValue}
 use Rattle.caller_keys.specs.Keys.{KeyNote, IsNote, note_line, AreLines, last_txn}
 use Rattle.file_medium.specs.Copies.{IsCopyOf}
 use Rattle.site_step.specs.Site.{SiteValue}
@@ -51,7 +50,7 @@ pub record GoesOn (old new : SiteValue) : Type 0 where
 
 -- What holds of every service: the link between its medium and its log, the set is that of the bytes that the medium holds, and the
 -- lines of notes are those that the log hasn't got.
-pub record IsSoundService (schema : SchemaValue) (site : SiteValue) (v : ServiceValue) (kept : KeptCommits) (lines : List ℕ) : Type 0 where
-  pub linked : IsLinked schema site v
+pub record IsSoundService (site : SiteValue) (v : ServiceValue) (kept : KeptCommits) (lines : List ℕ) : Type 0 where
+  pub linked : IsLinked site v
   pub index : IsIndexOf kept (held_in v.served)
   pub noting : AreNoteLines lines linked.more

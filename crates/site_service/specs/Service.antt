@@ -2,7 +2,6 @@
 use Rattle.std.specs.Prelude.{◌≡◌, ◌≤◌, ℕ, Bool, true, false, List, [], ◌++◌, length, take, drop, Option, Some}
 use Rattle.std.specs.List.{AllByRecursion, flat_map}
 use Rattle.std.specs.Io.KnownBytes.{Appends}
-use Rattle.field_bounds.specs.Schema.{SchemaValue}
 use Rattle.field_bounds.specs.declared.entry.Command.{Command}
 use Rattle.kept_records.specs.declared.medium.Mishap.TheVariants.{Never}
 use Rattle.kept_records.specs.declared.record.Record.{Record}
@@ -82,9 +81,8 @@ pub record StandsOnHeld (v : SiteValue) : Type 0 where
 
 -- What is safe of the log is a text of whole lines, whose records are the first so many of the bytes that the medium of this site
 -- holds, which are settled; and so is all that the log holds: unless a call of its file has failed. Its notes and some more tell of each
--- key its last transaction. The schema is the site's, and what is told of what was let go is true.
-pub record IsLinked (schema : SchemaValue) (site : SiteValue) (v : ServiceValue) : Type 0 where
-  pub own : schema ≡ site.schema
+-- key its last transaction. What is told of what was let go is true.
+pub record IsLinked (site : SiteValue) (v : ServiceValue) : Type 0 where
   pub stands : StandsOnHeld site
   pub let_go : IsTold v.served.let_go
   pub within : v.settled ≤ length (held_in v.served)

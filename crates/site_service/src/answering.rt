@@ -50,26 +50,21 @@ fn add_entry(out: &mut Vec<u8>, schema: &Schema, entry: Entry) -> Result<(), All
 pub(crate) fn carry_out(
     alloc: Global,
     site: &mut Site<MemoryMedium, GhostHistory<Entry>>,
-    schema: &Schema,
     out: &mut Vec<u8>,
     command: Command,
 ) -> Result<(), AllocError>
-    requires schema { schema.now ≡ site.old.schema }
     ensures ok { OnOk result (TellsEntry command site.old site.new out.old.items out.new.items) }
     ensures err { OnErr result (out.new.items ≡ out.old.items) }
     ensures grows { StandsOnHeld site.old → GoesOn site.old site.new }
 {
     let number = site.site();
     let reply = site.apply(alloc, command)?;
-    add_entry(
-        out,
-        schema,
-        Entry {
-            site: number,
-            command,
-            reply,
-        },
-    )
+    let entry = Entry {
+        site: number,
+        command,
+        reply,
+    };
+    add_entry(out, site.schema(), entry)
 }
 
 // Adds a line that spells a command of the site, with its reply, and an LF: the text of its entry,
@@ -121,13 +116,11 @@ fn add_spelled(
 fn carry_out_spelled(
     alloc: Global,
     site: &mut Site<MemoryMedium, GhostHistory<Entry>>,
-    schema: &Schema,
     out: &mut Vec<u8>,
     line: &[u8],
     command: Command,
 ) -> Result<(), AllocError>
-    requires schema { schema.now ≡ site.old.schema }
-    requires spelled { line.now ≡ command_text schema.now site.old.site command }
+    requires spelled { line.now ≡ command_text site.old.schema site.old.site command }
     ensures ok { OnOk result (TellsEntry command site.old site.new out.old.items out.new.items) }
     ensures err { OnErr result (out.new.items ≡ out.old.items) }
     ensures left { OnErr result (LeavesCommand site.old command site.new) }
@@ -135,7 +128,7 @@ fn carry_out_spelled(
 {
     let number = site.site();
     let reply = site.apply(alloc, command)?;
-    add_spelled(out, schema, line, number, command, reply)
+    add_spelled(out, site.schema(), line, number, command, reply)
 }
 
 // The words that tell whether a commit is kept.
@@ -226,13 +219,11 @@ fn tell_key(
 fn commit_spelled(
     alloc: Global,
     site: &mut Site<MemoryMedium, GhostHistory<Entry>>,
-    schema: &Schema,
     keys: &mut NotedKeys,
     out: &mut Vec<u8>,
     commit: KeyedCommit<'_>,
 ) -> Result<(), AllocError>
-    requires schema { schema.now ≡ site.old.schema }
-    requires spelled { commit.spelled.now ≡ command_text schema.now site.old.site
+    requires spelled { commit.spelled.now ≡ command_text site.old.schema site.old.site
         (CommandType.Commit commit.txn) }
     ensures ok { OnOk result ((text : List ℕ)
         × CommitsWith site.old keys.old.last commit.entry.txn commit.entry.key.bytes.now site.new
@@ -256,7 +247,8 @@ fn commit_spelled(
     } = commit;
     let number = site.site();
     let reply = commit_and_note(alloc, site, keys, key, txn)?;
-    add_spelled(out, schema, spelled, number, Command::Commit { txn }, reply)
+    let command = Command::Commit { txn };
+    add_spelled(out, site.schema(), spelled, number, command, reply)
 }
 
 // Answers a line that asks a commit with a key: tells which one is kept with it, or that one may be
@@ -264,24 +256,22 @@ fn commit_spelled(
 fn answer_commit(
     alloc: Global,
     site: &mut Site<MemoryMedium, GhostHistory<Entry>>,
-    schema: &Schema,
     kept: &mut KeptCommits,
     keys: &mut NotedKeys,
     told: &Option<Gone>,
     out: &mut Vec<u8>,
     commit: KeyedCommit<'_>,
 ) -> Result<(), AllocError>
-    requires schema { schema.now ≡ site.old.schema }
-    requires spelled { commit.spelled.now ≡ command_text schema.now site.old.site
+    requires spelled { commit.spelled.now ≡ command_text site.old.schema site.old.site
         (CommandType.Commit commit.txn) }
     requires stands { StandsOnHeld site.old }
     requires index { IsIndexOf kept.old (held_of site.old) }
-    ensures ok { (line : List ℕ) (count number : ℕ) → AsksCommit schema.now site.old.site line
+    ensures ok { (line : List ℕ) (count number : ℕ) → AsksCommit site.old.schema site.old.site line
         commit.entry.txn commit.entry.key.bytes.now commit.entry.since → OnOk result (Tells line
         (served_of site.old keys.old.last told.now count)
         (served_of site.new keys.new.last told.now number) out.old.items out.new.items) }
     ensures err { OnErr result (out.new.items ≡ out.old.items) }
-    ensures left { (line : List ℕ) (count number : ℕ) → AsksCommit schema.now site.old.site line
+    ensures left { (line : List ℕ) (count number : ℕ) → AsksCommit site.old.schema site.old.site line
         commit.entry.txn commit.entry.key.bytes.now commit.entry.since → OnErr result
         (LeavesAnswer (served_of site.old keys.old.last told.now count) line
         (served_of site.new keys.new.last told.now number)) }
@@ -296,7 +286,7 @@ fn answer_commit(
     match key_answer(told, since, found) {
         KeyAnswer::Kept(other) => add_kept_key(out, key, KeyAnswer::Kept(other)),
         KeyAnswer::Forgotten => add_kept_key(out, key, KeyAnswer::Forgotten),
-        KeyAnswer::No => commit_spelled(alloc, site, schema, keys, out, commit),
+        KeyAnswer::No => commit_spelled(alloc, site, keys, out, commit),
     }
 }
 
@@ -307,7 +297,6 @@ fn answer_commit(
 pub(crate) fn answer_line(
     alloc: Global,
     site: &mut Site<MemoryMedium, GhostHistory<Entry>>,
-    schema: &Schema,
     kept: &mut KeptCommits,
     keys: &mut NotedKeys,
     told: &Option<Gone>,
@@ -315,7 +304,6 @@ pub(crate) fn answer_line(
     number: u64,
     line: &[u8],
 ) -> Result<(), AllocError>
-    requires schema { schema.now ≡ site.old.schema }
     requires stands { StandsOnHeld site.old }
     requires index { IsIndexOf kept.old (held_of site.old) }
     ensures ok { (count : ℕ) → OnOk result (Tells line.now
@@ -335,11 +323,9 @@ pub(crate) fn answer_line(
         → IsBehind notes keys.old.lines keys.old.last
         → IsBehind notes keys.new.lines keys.new.last }
 {
-    match asked(schema, site.site(), line) {
-        Ok(Request::Do(command)) => carry_out_spelled(alloc, site, schema, out, line, command),
-        Ok(Request::Commit(commit)) => {
-            answer_commit(alloc, site, schema, kept, keys, told, out, commit)
-        }
+    match asked(site.schema(), site.site(), line) {
+        Ok(Request::Do(command)) => carry_out_spelled(alloc, site, out, line, command),
+        Ok(Request::Commit(commit)) => { answer_commit(alloc, site, kept, keys, told, out, commit) }
         Ok(Request::Kept(txn)) => {
             tell_commit(alloc, kept, told, site.medium().bytes(), out, line, txn)
         }

@@ -2,9 +2,8 @@
 
 ghost use Rattle.field_bounds.specs.declared.id.TxnId.{TxnId as Txn};
 ghost use Rattle.site_step.specs.Shortening.{has_commit};
-ghost use Rattle.std.specs.Prelude.{◌≡◌, ◌<◌, [], true, false, ℕ, List, IfOk, IfErr, IfSome, IfNone, OnErr};
-ghost use Rattle.kept_records.specs.Summary.{SummaryValue, summary_record};
-ghost use Rattle.kept_records.specs.Stands.{is_summary};
+ghost use Rattle.std.specs.Prelude.{◌≡◌, ◌<◌, [], true, ℕ, List, IfOk, IfErr, IfSome, IfNone, OnErr};
+ghost use Rattle.kept_records.specs.Summary.{SummaryValue};
 ghost use Rattle.script_input.specs.Lines.{last_part};
 ghost use Rattle.site_step.specs.Opening.{StartsWith};
 ghost use Rattle.log_bases.specs.Bases.{IsPast};
@@ -18,31 +17,10 @@ use crate::opening::{OpenedLog, keep_lines, read_lines, split_lines};
 use field_bounds::{Entry, Schema, SiteNo};
 use file_medium::LogFile;
 use history::GhostHistory;
-use kept_records::{LentRecords, MemoryMedium, Record, RecordLine, Summary};
+use kept_records::{LentRecords, MemoryMedium, RecordLine, Summary};
 use log_bases::stand_on;
 use site_step::{OpenFault, Site};
 use std::alloc::{AllocError, Global};
-
-// The summary that a record is, or None where it is another.
-fn summary_of(kept: Record) -> Option<Summary>
-    ensures some { IfSome result (λ base. summary_record base ≡ kept) }
-    ensures none { IfNone result (is_summary kept ≡ false) }
-{
-    match kept {
-        Record::Summary {
-            epoch,
-            rights,
-            gifts,
-            accepts,
-            tightenings,
-        } => Some(Summary::new(epoch, rights, gifts, accepts, tightenings)),
-        Record::Commit { .. }
-        | Record::Gift { .. }
-        | Record::Accept { .. }
-        | Record::Tighten { .. }
-        | Record::Restart { .. } => None,
-    }
-}
 
 // The summary with which records begin, or None where they begin with none.
 fn first_base(alloc: Global, records: &[u8]) -> Result<Option<Summary>, AllocError>
@@ -53,7 +31,7 @@ fn first_base(alloc: Global, records: &[u8]) -> Result<Option<Summary>, AllocErr
     let mut lines = LentRecords::new(alloc, records);
     let line = lines.next_line(alloc)?;
     match line {
-        RecordLine::Record(kept) => Ok(summary_of(kept)),
+        RecordLine::Record(kept) => Ok(kept.into_summary()),
         RecordLine::NoRecord => Ok(None),
         RecordLine::End => Ok(None),
     }
@@ -85,23 +63,22 @@ fn tested_base(
 // Opens the site over whole lines of records from a base on. The medium is dropped at a fault.
 fn open_base(
     alloc: Global,
-    schema: &Schema,
+    schema: Schema,
     number: SiteNo,
     held: Vec<u8>,
 ) -> Result<Site<MemoryMedium, GhostHistory<Entry>>, OpenFault>
-    requires in_schema { number.0 < schema.now.sites }
+    requires in_schema { number.0 < schema.sites }
     requires whole { last_part held.items ≡ [] }
-    ensures opens { IfOk result (OpensBehind schema.now number held.items) }
+    ensures opens { IfOk result (OpensBehind schema number held.items) }
     ensures stands { IfOk result StandsOnHeld }
 
     // The records that are chosen to be gone hold only commits of epoch 0, which no horizon spares.
     ensures early { IfOk result (λ site. (txn : Txn) → has_commit txn site.gone ≡ true
         → txn.epoch ≡ 0) }
-    ensures line { IfErr result (IsBadBehind schema.now number held.items) }
+    ensures line { IfErr result (IsBadBehind schema number held.items) }
 {
-    let base = tested_base(alloc, schema, number, &held)?;
-    let own = schema.copy()?;
-    match Site::open_from(alloc, own, number, &base, MemoryMedium::new(held)) {
+    let base = tested_base(alloc, &schema, number, &held)?;
+    match Site::open_from(alloc, schema, number, &base, MemoryMedium::new(held)) {
         Ok(site) => Ok(site),
         Err((fault, _medium)) => Err(fault),
     }
@@ -112,20 +89,20 @@ fn open_base(
 /// lawful records may stand in front of, and is line 1.
 pub(crate) fn open_behind<F: LogFile>(
     alloc: Global,
-    schema: &Schema,
+    schema: Schema,
     number: SiteNo,
     log: &mut F,
 ) -> Result<OpenedLog, OpenFault>
-    requires in_schema { number.0 < schema.now.sites }
+    requires in_schema { number.0 < schema.sites }
     ensures lines { IfOk result (λ opened. (held records : List ℕ)
         × HoldsRecords (F.bytes log.old) held opened.keys.last records
-        × OpensBehind schema.now number records opened.site
+        × OpensBehind schema number records opened.site
         × IsCopyOf (F.bytes log.new) held × IsCopyOf (F.safe log.new) held) }
     ensures none { IfOk result (λ opened. opened.keys.lines ≡ []) }
     ensures stands { IfOk result (λ opened. StandsOnHeld opened.site) }
     ensures early { IfOk result (λ opened. (txn : Txn) → has_commit txn opened.site.gone ≡ true
         → txn.epoch ≡ 0) }
-    ensures line { IfErr result (TellsBadBehind schema.now number (F.bytes log.old)) }
+    ensures line { IfErr result (TellsBadBehind schema number (F.bytes log.old)) }
     ensures kept { OnErr result (KeepsLines (F.bytes log.old) (F.safe log.old)
         (F.safe log.new)) }
     ensures least { SparesLines (F.bytes log.old) (F.least log.old) (F.least log.new) }

@@ -1,6 +1,6 @@
 //! Which commits a log holds.
 
-ghost use Rattle.std.specs.Prelude.{◌≡◌, ◌↔◌, ◌⊎◌, ◌≤◌, ℕ, List, true, length, drop, Contains, IfOk, OnOk, OnErr};
+ghost use Rattle.std.specs.Prelude.{◌≡◌, ◌↔◌, ◌⊎◌, ℕ, List, true, drop, Contains, IfOk, OnOk, OnErr};
 ghost use Rattle.field_bounds.specs.declared.id.TxnId.{TxnId as Txn};
 ghost use Rattle.kept_records.specs.Keeping.{IsKept};
 ghost use Rattle.field_bounds.specs.declared.entry.Escrow.{Escrow};

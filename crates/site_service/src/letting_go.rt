@@ -1,6 +1,6 @@
 //! What is told of a log once more of it was let go.
 
-ghost use Rattle.std.specs.Prelude.{◌≡◌, ℕ, ◌+◌, true, List, Option, IfOk, IfSome};
+ghost use Rattle.std.specs.Prelude.{◌≡◌, ◌+◌, true, Option, IfOk, IfSome};
 ghost use Rattle.field_bounds.specs.declared.id.TxnId.{TxnId as Txn};
 ghost use Rattle.kept_records.specs.Keeping.{IsKept};
 ghost use Rattle.field_bounds.specs.Owed.{is_up};

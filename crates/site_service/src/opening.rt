@@ -118,19 +118,18 @@ pub(crate) fn split_lines(alloc: Global, lines: Vec<u8>) -> Result<(NotedKeys, V
 // Opens the site over whole lines of records. The medium is dropped at a fault.
 fn open_site(
     alloc: Global,
-    schema: &Schema,
+    schema: Schema,
     number: SiteNo,
     held: Vec<u8>,
 ) -> Result<Site<MemoryMedium, GhostHistory<Entry>>, OpenFault>
-    requires in_schema { number.0 < schema.now.sites }
+    requires in_schema { number.0 < schema.sites }
     requires whole { last_part held.items ≡ [] }
-    ensures opens { IfOk result (Opens schema.now number held.items 0) }
+    ensures opens { IfOk result (Opens schema number held.items 0) }
     ensures whole { IfOk result IsWhole }
-    ensures line { IfErr result (TellsLine schema.now number.0 held.items) }
-    ensures never { IfErr result (SparesLogs schema.now number.0 held.items) }
+    ensures line { IfErr result (TellsLine schema number.0 held.items) }
+    ensures never { IfErr result (SparesLogs schema number.0 held.items) }
 {
-    let own = schema.copy()?;
-    match Site::open_with(alloc, own, number, MemoryMedium::new(held)) {
+    match Site::open_with(alloc, schema, number, MemoryMedium::new(held)) {
         Ok(site) => Ok(site),
         Err((fault, _medium)) => Err(fault),
     }
@@ -148,19 +147,19 @@ pub(crate) struct OpenedLog {
 /// stays as it is; and at each fault what was safe of its whole lines still is.
 pub(crate) fn open_lines<F: LogFile>(
     alloc: Global,
-    schema: &Schema,
+    schema: Schema,
     number: SiteNo,
     log: &mut F,
 ) -> Result<OpenedLog, OpenFault>
-    requires in_schema { number.0 < schema.now.sites }
+    requires in_schema { number.0 < schema.sites }
     ensures lines { IfOk result (λ opened. (held : List ℕ)
         × HoldsRecords (F.bytes log.old) held opened.keys.last opened.site.bytes
         × IsCopyOf (F.bytes log.new) held × IsCopyOf (F.safe log.new) held) }
     ensures none { IfOk result (λ opened. opened.keys.lines ≡ []) }
-    ensures opens { IfOk result (λ opened. Opens schema.now number opened.site.bytes 0
+    ensures opens { IfOk result (λ opened. Opens schema number opened.site.bytes 0
         opened.site) }
     ensures whole { IfOk result (λ opened. IsWhole opened.site) }
-    ensures line { IfErr result (TellsBadLine schema.now number (F.bytes log.old)) }
+    ensures line { IfErr result (TellsBadLine schema number (F.bytes log.old)) }
     ensures kept { OnErr result (KeepsLines (F.bytes log.old) (F.safe log.old)
         (F.safe log.new)) }
     ensures least { SparesLines (F.bytes log.old) (F.least log.old) (F.least log.new) }

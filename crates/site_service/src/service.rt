@@ -9,7 +9,7 @@ ghost use Rattle.site_service.specs.Answers.{LeavesAnswer, whole_of, site_of, he
 ghost use Rattle.site_step.specs.Shortening.{held_of};
 ghost use Rattle.site_service.specs.Index.{IsFollowed};
 ghost use Rattle.site_service.specs.Kept.{AnswersCommit, AnswersKey, IsRightOf};
-ghost use Rattle.site_service.specs.LetGo.{IsRightOfKey, IsTold, let_go_of, nothing_gone};
+ghost use Rattle.site_service.specs.LetGo.{IsRightOfKey, IsTold, let_go_of};
 ghost use Rattle.site_service.specs.Opening.{IsOpened, IsStarted, IsSafe, KeepsLines, SparesLines, TellsBadLine};
 ghost use Rattle.site_service.specs.Service.{Grows, StandsOnHeld, AddsNotesFirst, IsSettled, KeepsLog, HasApplied, HasAnswered, LetsOut, HoldsBack};
 ghost use Rattle.site_service.specs.Counting.{CountsWrites};
@@ -59,7 +59,6 @@ use std::marker::Model;
 #[derive(Drop)]
 pub struct Service<F: LogFile> {
     site: Site<MemoryMedium, GhostHistory<Entry>>,
-    schema: Schema,
     kept: KeptCommits,
     keys: NotedKeys,
     // What was let go of the log, if ever anything was.
@@ -80,7 +79,7 @@ impl<F: LogFile> Model for Service<F> {
     ghost view = { λ s. value_of s.site s.keys.last s.told s.lines s.waiting.items
         (F.bytes s.log) (F.safe s.log) (F.least s.log) s.settled s.lost };
 
-    ghost invariant = { λ s. IsSoundService s.schema s.site (value_of s.site s.keys.last s.told
+    ghost invariant = { λ s. IsSoundService s.site (value_of s.site s.keys.last s.told
         s.lines s.waiting.items (F.bytes s.log) (F.safe s.log) (F.least s.log) s.settled s.lost)
         s.kept s.keys.lines };
 }
@@ -133,8 +132,8 @@ impl<F: LogFile + Drop> Service<F> {
         ensures uncut { T.least trace.new ≡ T.least trace.old }
     {
         let mut log = log;
-        match open_lines(alloc, &schema, number, &mut log) {
-            Ok(opened) => Service::start(alloc, schema, opened, None, log, trace),
+        match open_lines(alloc, schema, number, &mut log) {
+            Ok(opened) => Service::start(alloc, opened, None, log, trace),
             Err(fault) => Err((fault, log)),
         }
     }
@@ -175,8 +174,8 @@ impl<F: LogFile + Drop> Service<F> {
     {
         let _epoch = told.horizon.epoch();
         let mut log = log;
-        match open_behind(alloc, &schema, number, &mut log) {
-            Ok(opened) => Service::start(alloc, schema, opened, Some(told), log, trace),
+        match open_behind(alloc, schema, number, &mut log) {
+            Ok(opened) => Service::start(alloc, opened, Some(told), log, trace),
             Err(fault) => Err((fault, log)),
         }
     }
@@ -185,13 +184,11 @@ impl<F: LogFile + Drop> Service<F> {
     // and settles that.
     fn start<T: LogFile>(
         alloc: Global,
-        schema: Schema,
         opened: OpenedLog,
         told: Option<Gone>,
         log: F,
         trace: &mut T,
     ) -> Result<Service<F>, (OpenFault, F)>
-        requires own { opened.site.schema ≡ schema }
         requires stands { StandsOnHeld opened.site }
         requires let_go { IsTold (let_go_of opened.site.gone told) }
         requires none { opened.keys.lines ≡ [] }
@@ -215,7 +212,6 @@ impl<F: LogFile + Drop> Service<F> {
         let settled = site.medium().bytes().len();
         let mut service = Service {
             site,
-            schema,
             kept: KeptCommits::new(alloc),
             keys,
             told,
@@ -330,13 +326,7 @@ impl<F: LogFile> Service<F> {
         ensures let_go { self.new.served.let_go ≡ self.old.served.let_go }
         ensures log { KeepsLog self.old self.new }
     {
-        carry_out(
-            alloc,
-            &mut self.site,
-            &self.schema,
-            &mut self.waiting,
-            command,
-        )
+        carry_out(alloc, &mut self.site, &mut self.waiting, command)
     }
 
     /// Answers a line, without its LF: the entry of the command that it asks of this site; or `bad
@@ -364,7 +354,6 @@ impl<F: LogFile> Service<F> {
         answer_line(
             alloc,
             &mut self.site,
-            &self.schema,
             &mut self.kept,
             &mut self.keys,
             &self.told,

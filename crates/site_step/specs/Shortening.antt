@@ -1,11 +1,11 @@
 -- What is let go and what stays where a log is shortened at a summary (this project).
-use Rattle.std.specs.Prelude.{◌≡◌, ◌≢◌, ℕ, ◌<◌, ◌≤◌, ◌==◌, ◌&&◌, if◌then◌else◌, Bool, true, false, List, [], ◌∷◌, ◌++◌, length, drop, fold, slice_index_or}
+use Rattle.std.specs.Prelude.{◌≡◌, ◌≢◌, ℕ, ◌<◌, ◌≤◌, ◌==◌, ◌&&◌, if◌then◌else◌, Bool, true, false, List, [], ◌∷◌, ◌++◌, length, drop, fold, Option, Some, None, slice_index_or}
 use Rattle.std.specs.List.{flat_map, list_any}
 use Rattle.field_bounds.specs.declared.id.TxnId.{TxnId}
 use Rattle.field_bounds.specs.Effects.{is_up_to}
 use Rattle.field_bounds.specs.Owed.{is_up}
 use Rattle.kept_records.specs.declared.record.Record.{Record}
-use Rattle.kept_records.specs.declared.record.Record.TheVariants.{Commit, Gift, Accept, Tighten, Restart, Summary}
+use Rattle.kept_records.specs.Kinds.{commit_told}
 use Rattle.kept_records.specs.Text.{text}
 use Rattle.kept_records.specs.Summary.{SummaryValue, summary_record}
 use Rattle.kept_records.specs.Logs.{IsLog}
@@ -26,25 +26,23 @@ abbrev pub held_of : SiteValue → List ℕ
 held_of v = drop (length (flat_map text v.gone)) v.bytes
 
 -- The record is the commit of this transaction; one of the records is.
+abbrev pub is_this : TxnId → Option TxnId → Bool
+is_this txn None = false
+is_this txn (Some other) = other.epoch == txn.epoch && other.number == txn.number
+
 abbrev pub is_commit_of : TxnId → Record → Bool
-is_commit_of txn (Commit other escrows) = other.epoch == txn.epoch && other.number == txn.number
-is_commit_of txn (Gift to field kind total) = false
-is_commit_of txn (Accept from field kind total) = false
-is_commit_of txn (Tighten field kind total) = false
-is_commit_of txn (Restart epoch) = false
-is_commit_of txn (Summary epoch rights gifts accepts tightenings) = false
+is_commit_of txn r = is_this txn (commit_told r)
 
 abbrev pub has_commit : TxnId → List Record → Bool
 has_commit txn rs = list_any (is_commit_of txn) rs
 
 -- The greatest transaction whose commit is among the records, and 0.0 where none is.
+abbrev pub later_txn : TxnId → Option TxnId → TxnId
+later_txn latest None = latest
+later_txn latest (Some txn) = if is_up_to latest txn then latest else txn
+
 abbrev pub later_commit : TxnId → Record → TxnId
-later_commit latest (Commit txn escrows) = if is_up_to latest txn then latest else txn
-later_commit latest (Gift to field kind total) = latest
-later_commit latest (Accept from field kind total) = latest
-later_commit latest (Tighten field kind total) = latest
-later_commit latest (Restart epoch) = latest
-later_commit latest (Summary epoch rights gifts accepts tightenings) = latest
+later_commit latest r = later_txn latest (commit_told r)
 
 unfoldable pub latest_commit : List Record → TxnId
 latest_commit rs = fold later_commit (record { epoch = 0; number = 0 }) rs

@@ -1,29 +1,29 @@
 -- What ties what a site holds, in memory and on its medium, to its history (this project).
-use Rattle.std.specs.Prelude.{◌≡◌, ℕ, ◌+◌, ◌<◌, ◌≤◌, ◌⊎◌, List, [], ◌∷◌, ◌++◌, length, map, reverse, nat_le, if◌then◌else◌, Bool, true, false, Some}
+use Rattle.std.specs.Prelude.{◌≡◌, ℕ, ◌+◌, ◌<◌, ◌≤◌, ◌⊎◌, List, [], ◌∷◌, ◌++◌, length, map, reverse, nat_le, if◌then◌else◌, Bool, true, false, not, ◌&&◌, Option, Some, None}
 use Rattle.std.specs.List.{flat_map}
 use Rattle.field_bounds.specs.declared.kind.Kind.{Kind}
 use Rattle.field_bounds.specs.declared.id.TxnId.{TxnId}
 use Rattle.field_bounds.specs.declared.id.SiteNo.{SiteNo}
 use Rattle.field_bounds.specs.declared.entry.Command.{Command}
-use Rattle.field_bounds.specs.declared.entry.Command.TheVariants.{Begin, Escrow, Commit, Abort, Give, Restate, Spare, Tighten, Accept, Read, Share, Restart}
 use Rattle.field_bounds.specs.declared.entry.Entry.{Entry}
 use Rattle.field_bounds.specs.Schema.{SchemaValue}
 use Rattle.field_bounds.specs.Limits.{IsSchema}
 use Rattle.field_bounds.specs.declared.effect.Effect.{Effect}
 use Rattle.field_bounds.specs.Effects.{Base, open_txns, escrows_of, held_rights, effects}
+use Rattle.field_bounds.specs.Shape.{asks_restart, txn_ended, grows_journal}
 use Rattle.field_bounds.specs.Owed.{count_since, is_begun_reply, is_up, max_epoch, IsRun}
 use Rattle.site_rights.specs.declared.field_rights.FieldRights.{FieldRights}
 use Rattle.site_rights.specs.declared.field_rights.Outcome.TheVariants.{Committed, Aborted}
 use Rattle.site_rights.specs.Rights.{held_at, ending, by_escrows, AreInRange, AreHeld}
 use Rattle.escrow_journal.specs.Journal.{Row, is_listed, escrows_at, without}
 use Rattle.kept_records.specs.declared.record.Record.{Record}
+use Rattle.kept_records.specs.Kinds.{commit_told}
 use Rattle.kept_records.specs.Logs.{IsLog}
 use Rattle.kept_records.specs.Stands.{Lawful, is_summary, plain, since_summary, max_behind}
 use Rattle.kept_records.specs.Text.{text}
 use Rattle.kept_records.specs.ReadingBack.{told_length}
 use Rattle.kept_state.specs.Keeps.{Keeps, IsBase}
 use Rattle.kept_state.specs.Doubt.{IsDoubt}
-use Rattle.kept_records.specs.declared.record.Record.TheVariants as records
 use Rattle.log_replay.specs.Standing.{HasSlots, Stands, CanTakeIn}
 use Rattle.site_step.specs.Replaying.{downs_since, downs_before}
 use Rattle.site_step.specs.declared.accounts.SiteAccounts.{SiteAccounts}
@@ -68,29 +68,18 @@ abbrev pub after_spending : TxnId → SiteAccounts → SiteAccounts
 after_spending txn a =
     record (with_rights (by_escrows (ending Committed) a.standing.rights (escrows_at txn a.journal)) a) { journal = without txn a.journal }
 
+-- A transaction that ends, where one does, taken out, and what it holds given back.
+abbrev pub after_end : SiteAccounts → Option TxnId → SiteAccounts
+after_end a None = a
+after_end a (Some txn) = after_release txn a
+
 -- What a command does that writes no record.
 abbrev pub after_settling : SiteAccounts → Command → SiteAccounts
-after_settling a (Commit txn) = after_release txn a
-after_settling a (Abort txn) = after_release txn a
-after_settling a Begin = a
-after_settling a (Escrow txn field change) = a
-after_settling a (Give to field kind amount) = a
-after_settling a (Restate to field kind) = a
-after_settling a (Spare to field kind want) = a
-after_settling a (Tighten field kind amount) = a
-after_settling a (Accept told) = a
-after_settling a (Read field) = a
-after_settling a (Share field) = a
-after_settling a Restart = a
+after_settling a c = after_end a (txn_ended c)
 
 -- What is in memory when a record is taken in: a commit's transaction is released.
 abbrev pub before_taking_in : SiteAccounts → Record → SiteAccounts
-before_taking_in a (records.Commit txn escrows) = after_release txn a
-before_taking_in a (records.Gift to field kind total) = a
-before_taking_in a (records.Accept from field kind total) = a
-before_taking_in a (records.Tighten field kind total) = a
-before_taking_in a (records.Restart epoch) = a
-before_taking_in a (records.Summary epoch rights gifts accepts tightenings) = a
+before_taking_in a r = after_end a (commit_told r)
 
 -- The transaction is open, and its escrows are held.
 pub record CanClose (a : SiteAccounts) (txn : TxnId) : Type 0 where
@@ -98,27 +87,15 @@ pub record CanClose (a : SiteAccounts) (txn : TxnId) : Type 0 where
   pub in_range : AreInRange a.standing.rights (escrows_at txn a.journal)
   pub are_held : AreHeld a.standing.rights (escrows_at txn a.journal)
 
+abbrev pub CanEnd : SiteAccounts → Option TxnId → Type 0
+CanEnd a None = Unit {0}
+CanEnd a (Some txn) = CanClose a txn
+
 abbrev pub CanSettle : SiteAccounts → Command → Type 0
-CanSettle a (Commit txn) = CanClose a txn
-CanSettle a (Abort txn) = CanClose a txn
-CanSettle a Begin = Unit {0}
-CanSettle a (Escrow txn field change) = Unit {0}
-CanSettle a (Give to field kind amount) = Unit {0}
-CanSettle a (Restate to field kind) = Unit {0}
-CanSettle a (Spare to field kind want) = Unit {0}
-CanSettle a (Tighten field kind amount) = Unit {0}
-CanSettle a (Accept told) = Unit {0}
-CanSettle a (Read field) = Unit {0}
-CanSettle a (Share field) = Unit {0}
-CanSettle a Restart = Unit {0}
+CanSettle a c = CanEnd a (txn_ended c)
 
 abbrev pub CanReady : SiteAccounts → Record → Type 0
-CanReady a (records.Commit txn escrows) = CanClose a txn
-CanReady a (records.Gift to field kind total) = Unit {0}
-CanReady a (records.Accept from field kind total) = Unit {0}
-CanReady a (records.Tighten field kind total) = Unit {0}
-CanReady a (records.Restart epoch) = Unit {0}
-CanReady a (records.Summary epoch rights gifts accepts tightenings) = Unit {0}
+CanReady a r = CanEnd a (commit_told r)
 
 -- The record can be taken in, once its transaction is released.
 pub record CanCarry (schema : SchemaValue) (a : SiteAccounts) (kept : Record) : Type 0 where
@@ -128,18 +105,7 @@ pub record CanCarry (schema : SchemaValue) (a : SiteAccounts) (kept : Record) : 
 
 -- The command needs no memory of its own.
 abbrev pub is_carried : Command → Bool
-is_carried Begin = false
-is_carried (Escrow txn field change) = false
-is_carried Restart = false
-is_carried (Commit txn) = true
-is_carried (Abort txn) = true
-is_carried (Give to field kind amount) = true
-is_carried (Restate to field kind) = true
-is_carried (Spare to field kind want) = true
-is_carried (Tighten field kind amount) = true
-is_carried (Accept told) = true
-is_carried (Read field) = true
-is_carried (Share field) = true
+is_carried c = not (grows_journal c) && not (asks_restart c)
 
 -- ---- on the medium
 

@@ -6,10 +6,10 @@ ghost use Rattle.kept_records.specs.Text.{IsRecord};
 ghost use Rattle.site_rights.specs.Rights.{ending, by_escrows, AreInRange, AreHeld};
 ghost use Rattle.escrow_journal.specs.Journal.{is_listed, escrows_at, without};
 ghost use Rattle.log_replay.specs.Standing.{HasSlots, CanTakeIn, TakesIn};
-ghost use Rattle.site_step.specs.State.{CanClose, CanSettle, CanCarry, after_release, after_spending, after_settling, before_taking_in};
+ghost use Rattle.site_step.specs.State.{CanClose, CanEnd, CanSettle, CanCarry, after_release, after_spending, after_end, after_settling, before_taking_in};
 
 use escrow_journal::Journal;
-use field_bounds::{Command, Schema, TxnId};
+use field_bounds::{Command, Schema, TxnId, txn_ended};
 use kept_records::Record;
 use log_replay::Standing;
 use site_rights::{Outcome, Rights};
@@ -66,24 +66,22 @@ impl SiteAccounts {
         );
     }
 
+    // Releases a transaction that ends, where one does.
+    fn end_with(&mut self, ended: Option<TxnId>)
+        requires can { CanEnd self.old ended }
+        ensures ended { self.new ≡ after_end self.old ended }
+    {
+        if let Some(txn) = ended {
+            self.release(txn);
+        }
+    }
+
     /// Does what a command does that writes no record: an end releases its transaction.
     pub(crate) fn settle(&mut self, command: Command)
         requires can { CanSettle self.old command }
         ensures settled { self.new ≡ after_settling self.old command }
     {
-        match command {
-            Command::Commit { txn } | Command::Abort { txn } => self.release(txn),
-            Command::Begin
-            | Command::Escrow { .. }
-            | Command::Give { .. }
-            | Command::Restate { .. }
-            | Command::Spare { .. }
-            | Command::Tighten { .. }
-            | Command::Accept(_)
-            | Command::Read { .. }
-            | Command::Share { .. }
-            | Command::Restart => {}
-        }
+        self.end_with(txn_ended(command));
     }
 
     /// Takes in the record that was appended, as a restart does. A commit's transaction is released
@@ -96,9 +94,7 @@ impl SiteAccounts {
         ensures journal { self.new.journal ≡ (before_taking_in self.old kept.now).journal }
         ensures last { self.new.last ≡ self.old.last }
     {
-        if let Record::Commit { txn, escrows: _ } = kept {
-            self.release(*txn);
-        }
+        self.end_with(kept.commit_told());
         let took = self.standing.take_in(schema, kept);
         prove!(took);
     }

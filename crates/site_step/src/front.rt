@@ -71,13 +71,9 @@ pub(crate) fn front_end(bytes: &[u8], keep: usize) -> Option<usize>
 fn later_commit(latest: TxnId, next: &Record) -> TxnId
     ensures value { result ≡ later_commit latest next.now }
 {
-    match next {
-        Record::Commit { txn, .. } => { if is_up_to(latest, *txn) { latest } else { *txn } }
-        Record::Gift { .. }
-        | Record::Accept { .. }
-        | Record::Tighten { .. }
-        | Record::Restart { .. }
-        | Record::Summary { .. } => latest,
+    match next.commit_told() {
+        Some(txn) => { if is_up_to(latest, txn) { latest } else { txn } }
+        None => latest,
     }
 }
 

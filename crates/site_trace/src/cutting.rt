@@ -1,6 +1,6 @@
 //! Where a trace is cut back to a log.
 
-ghost use Rattle.std.specs.Prelude.{◌≡◌, ◌<◌, IfSome, IfNone, length, map, reverse};
+ghost use Rattle.std.specs.Prelude.{◌<◌, IfSome, IfNone, length, map, reverse};
 ghost use Rattle.kept_records.specs.Stands.{plain};
 ghost use Rattle.site_trace.specs.Traces.{entries_of};
 ghost use Rattle.site_trace.specs.Records.{records_left};

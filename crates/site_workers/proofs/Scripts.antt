@@ -18,12 +18,13 @@ use Rattle.std.proofs.lemmas.List.{reverse-append}
 use Rattle.field_bounds.specs.Effects.{fresh}
 use Rattle.field_bounds.specs.Owed.{IsRun}
 use Rattle.field_bounds.specs.Central.{AreOf}
+use Rattle.field_bounds.specs.Shape.{is_accept}
 use Rattle.site_step.specs.Site.{SiteValue, base_of}
 use Rattle.work_faults.specs.declared.workers.WorkFault.{WorkFault}
 use Rattle.site_workers.specs.declared.inbox.Letter.{Letter}
 use Rattle.site_workers.specs.declared.inbox.Letter.TheVariants.{Stated, End}
 use Rattle.site_workers.specs.Carried.{commands_of, accepts_of, Carries}
-use Rattle.site_workers.specs.Scripts.{is_accept, without_accepts, HasNoAccept, AreAccepts, IsRising, IsClosed, IsWorked}
+use Rattle.site_workers.specs.Scripts.{without_accepts, HasNoAccept, AreAccepts, IsRising, IsClosed, IsWorked}
 
 -- the receipts' numbers rise from above n
 abbrev IsAbove : ℕ → List Receipt → Type 0

@@ -1,6 +1,6 @@
 //! The courier of a site.
 
-ghost use Rattle.std.specs.Prelude.{◌≡◌, ◌+◌, ◌<◌, ℕ, true, false, length, IfOk, IfErr, OnOk, slice_index_or, vec_len};
+ghost use Rattle.std.specs.Prelude.{◌≡◌, ◌+◌, ◌<◌, ℕ, true, false, length, IfOk, IfErr, OnOk, slice_index_or};
 ghost use Rattle.crossbeam_channel.specs.Claims.{view, IsSeatAt};
 ghost use Rattle.crossbeam_channel.specs.Ends.{receives_on};
 ghost use Rattle.field_bounds.specs.declared.entry.Command.TheVariants.{Accept};

@@ -1,6 +1,6 @@
 //! What goes from site to site, tested on the histories.
 
-ghost use Rattle.std.specs.Prelude.{◌≡◌, ◌≤◌, [], IfOk, IfSome, IfNone, Contains, reverse, length, slice_index_or};
+ghost use Rattle.std.specs.Prelude.{◌≡◌, ◌≤◌, IfOk, IfSome, IfNone, Contains, reverse, length};
 ghost use Rattle.field_bounds.specs.declared.entry.Statement.{Statement};
 ghost use Rattle.field_bounds.specs.Statements.{statement_of};
 ghost use Rattle.site_workers.specs.Scripts.{histories_of, HasAccept, NoneForeign, NoneLost};

@@ -1,19 +1,9 @@
 //! Which scripts workers take.
 
-ghost use Rattle.std.specs.Prelude.{◌≡◌, ◌↔◌, IsTrue};
-ghost use Rattle.site_workers.specs.Scripts.{is_accept, HasNoAccept, scripts_of, ScriptsFit};
+ghost use Rattle.std.specs.Prelude.{◌↔◌, IsTrue};
+ghost use Rattle.site_workers.specs.Scripts.{HasNoAccept, scripts_of, ScriptsFit};
 
-use field_bounds::{Command, Schema};
-
-/// Whether the command is an accept.
-fn is_accept(command: &Command) -> bool
-    ensures { result ≡ is_accept command.now }
-{
-    match command {
-        Command::Accept(_) => true,
-        _ => false,
-    }
-}
+use field_bounds::{Command, Schema, is_accept};
 
 /// Whether none of the commands is an accept.
 fn has_no_accept(script: &[Command]) -> bool

@@ -3,7 +3,7 @@
 //! belongs to one way at most. Four kinds of step keep the rule: a worker's way is cut from the
 //! maker's, a courier's way is, a letter is put, a letter is taken.
 
-ghost use Rattle.std.specs.Prelude.{◌≡◌, ◌+◌, ◌<◌, ℕ, [], ◌∷◌, ◌++◌, IfOk, IfErr, OnOk, OnErr, MatchResult, None, Some, IfSome, IfNone};
+ghost use Rattle.std.specs.Prelude.{◌≡◌, ◌<◌, IfOk, IfErr, OnOk, IfSome, IfNone};
 ghost use Rattle.crossbeam_channel.specs.Claims.{view, IsSeatAt};
 ghost use Rattle.crossbeam_channel.specs.Ends.{sends_on, receives_on};
 ghost use Rattle.site_workers.specs.Inboxes.{after_put, after_take, first_maker, maker_after, MayPut, new_courier, next_worker};

@@ -1,8 +1,8 @@
 //! One site: its desk, its worker and its courier.
 
-ghost use Rattle.std.specs.Prelude.{◌≡◌, ◌<◌, ◌++◌, ◌∷◌, ◌⊎◌, [], Ok, Err, Some, IfOk, IfErr, IfNone, IfSome, length, vec_len, map, reverse};
+ghost use Rattle.std.specs.Prelude.{◌≡◌, ◌<◌, ◌++◌, Ok, Err, Some, IfOk, IfErr, IfNone, IfSome};
 ghost use Rattle.crossbeam_channel.specs.Claims.{view, IsSeatAt};
-ghost use Rattle.crossbeam_channel.specs.Ends.{sends_on, receives_on};
+ghost use Rattle.crossbeam_channel.specs.Ends.{receives_on};
 ghost use Rattle.work_faults.specs.declared.workers.WorkFault.TheVariants.{NoMemory};
 ghost use Rattle.site_workers.specs.Carried.{commands_of};
 ghost use Rattle.site_workers.specs.Faults.{fault_of_courier, IsCarried, IsFaultAt, IsFaultOf, IsWantBehind, TurnsNone};

@@ -1,7 +1,6 @@
 //! The traces of all sites of a world.
 
-ghost use Rattle.std.specs.Prelude.{◌≡◌, ◌≢◌, ◌<◌, ◌≤◌, ℕ, List, None, length, slice_index_or, vec_len};
-ghost use Rattle.field_bounds.specs.Limits.{IsSchema};
+ghost use Rattle.std.specs.Prelude.{◌≢◌, ◌<◌, ◌≤◌, List, None, length, vec_len};
 ghost use Rattle.field_bounds.specs.declared.entry.Entry.{Entry as EntryType};
 
 use crate::fault::WindowFault;

@@ -1,6 +1,6 @@
 //! A site's folder: where its files lie, and what they hold.
 
-ghost use Rattle.std.specs.Prelude.{◌≡◌, ◌++◌, codes, IfOk, string_bytes};
+ghost use Rattle.std.specs.Prelude.{◌≡◌, IfOk, string_bytes};
 ghost use Rattle.site_folder.specs.Identity.{identity_text};
 ghost use Rattle.world_folders.specs.Folders.{ArePathsOf, path_in};
 ghost use Rattle.world_folders.specs.Reading.{IsRead};

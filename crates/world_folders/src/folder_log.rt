@@ -1,6 +1,6 @@
 //! The log of a site's folder, of any version: what its file holds, and what that comes to.
 
-ghost use Rattle.std.specs.Prelude.{◌≡◌, ◌<◌, ◌↔◌, IfOk, IsTrue, string_bytes};
+ghost use Rattle.std.specs.Prelude.{◌<◌, ◌↔◌, IfOk, IsTrue, string_bytes};
 ghost use Rattle.folder_logs.specs.Files.{bytes_of};
 ghost use Rattle.held_logs.specs.Held.{Holds};
 ghost use Rattle.world_folders.specs.Logs.{CountsLog, IsStandRead, LacksBase, ReplaysLog};

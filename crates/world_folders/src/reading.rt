@@ -1,6 +1,6 @@
 //! What is read of the system by paths.
 
-ghost use Rattle.std.specs.Prelude.{◌≡◌, ℕ, Bool, List, IfOk};
+ghost use Rattle.std.specs.Prelude.{ℕ, Bool, List, IfOk};
 ghost use Rattle.world_folders.specs.Reading.{IsRead, IsSeen};
 
 use crate::progress::tell_reading;

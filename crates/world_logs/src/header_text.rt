@@ -1,7 +1,6 @@
 //! The header of a schema, as text.
 
 ghost use Rattle.std.specs.Prelude.{◌≡◌, ◌≢◌, ◌<◌, ◌++◌, Ok, IfOk, IfErr, OnOk, length, drop, string_bytes};
-ghost use Rattle.std.specs.Fmt.{decimal};
 ghost use Rattle.field_bounds.specs.Limits.{IsSchema};
 ghost use Rattle.field_bounds.specs.Header.{schema_of};
 ghost use Rattle.field_bounds.specs.Parts.{field_at};

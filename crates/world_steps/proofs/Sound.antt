@@ -20,12 +20,13 @@ use Rattle.field_bounds.proofs.Traces.{sound_front}
 use Rattle.field_bounds.proofs.Headline.{within_bounds, outcomes_are_bounded}
 use Rattle.field_bounds.proofs.Ledgers.{cuts_grow}
 use Rattle.field_bounds.proofs.Sound.{sound_empty, sound_more}
+use Rattle.field_bounds.specs.Shape.{is_accept}
 use Rattle.kept_state.specs.declared.luck.Luck.{Luck}
 use Rattle.kept_state.specs.Luck.{Lucky, entries, own_lucky, lucky_reply}
 use Rattle.kept_state.proofs.Lucky.{lucky_fits, own_entries}
 use Rattle.world_steps.specs.declared.step.WorldStep.{WorldStep}
 use Rattle.world_steps.specs.declared.step.WorldStep.TheVariants.{Do, Deliver}
-use Rattle.world_steps.specs.World.{statements_issued, statement_at, delivery_of, question_of, luck_of, is_accept, StepFits, with_entry, world_of}
+use Rattle.world_steps.specs.World.{statements_issued, statement_at, delivery_of, question_of, luck_of, StepFits, with_entry, world_of}
 use Rattle.world_steps.specs.Promises.{IsBoundedThroughout, OutcomesAreBoundedThroughout, BoundsOnlyTighten, NoneStrange}
 use Rattle.world_steps.proofs.Issued.{issued_to, numbered_is_issued}
 use Rattle.world_steps.proofs.Strange.{familiar_step}

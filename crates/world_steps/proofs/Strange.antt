@@ -19,9 +19,10 @@ use Rattle.field_bounds.specs.Owed.{Place, Test, place, first, refusals, answer,
 use Rattle.field_bounds.specs.Statements.{IsIssued}
 use Rattle.field_bounds.specs.Central.{own, IsSound}
 use Rattle.field_bounds.proofs.Refused.{match_cases, is_refused}
+use Rattle.field_bounds.specs.Shape.{is_accept}
 use Rattle.world_steps.specs.declared.step.WorldStep.{WorldStep}
 use Rattle.world_steps.specs.declared.step.WorldStep.TheVariants.{Do, Deliver}
-use Rattle.world_steps.specs.World.{statements_issued, statement_at, delivery_of, question_of, is_accept, StepFits}
+use Rattle.world_steps.specs.World.{statements_issued, statement_at, delivery_of, question_of, StepFits}
 use Rattle.world_steps.specs.Promises.{is_strange, IsFamiliar}
 use Rattle.world_steps.proofs.Issued.{numbered_is_issued}
 use Rattle.world_steps.proofs.Forged.{never_forged}

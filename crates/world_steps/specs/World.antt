@@ -1,13 +1,14 @@
 -- The steps of a world of sites, and the one trace that they make (this project). Lists of steps, entries and statements
 -- have the newest first, so that the rest of a list is what came before its head.
-use Rattle.std.specs.Prelude.{◌≡◌, ℕ, suc, ◌<◌, ◌==◌, Bool, true, false, if◌then◌else◌, List, [], ◌∷◌, length, reverse, Option, Some, None}
+use Rattle.std.specs.Prelude.{◌≡◌, ℕ, suc, ◌<◌, ◌==◌, false, if◌then◌else◌, List, [], ◌∷◌, length, reverse, Option, Some, None}
 use Rattle.field_bounds.specs.declared.id.SiteNo.{SiteNo}
 use Rattle.field_bounds.specs.declared.entry.Statement.{Statement}
 use Rattle.field_bounds.specs.declared.entry.Command.{Command}
-use Rattle.field_bounds.specs.declared.entry.Command.TheVariants.{Begin, Escrow, Commit, Abort, Give, Restate, Spare, Tighten, Accept, Read, Share, Restart}
+use Rattle.field_bounds.specs.declared.entry.Command.TheVariants.{Accept}
 use Rattle.field_bounds.specs.declared.entry.Entry.{Entry}
 use Rattle.field_bounds.specs.Schema.{SchemaValue}
 use Rattle.field_bounds.specs.Effects.{fresh}
+use Rattle.field_bounds.specs.Shape.{is_accept}
 use Rattle.field_bounds.specs.Statements.{statement_of}
 use Rattle.kept_state.specs.Keeps.{entry_at}
 use Rattle.kept_state.specs.declared.luck.Luck.{Luck}
@@ -50,21 +51,6 @@ luck_of (Do site command luck) = luck
 luck_of (Deliver k luck) = luck
 
 -- ---- which steps a world takes
-
--- The command takes in a statement.
-abbrev pub is_accept : Command → Bool
-is_accept (Accept told) = true
-is_accept Begin = false
-is_accept (Escrow txn field change) = false
-is_accept (Commit txn) = false
-is_accept (Abort txn) = false
-is_accept (Give to field kind amount) = false
-is_accept (Restate to field kind) = false
-is_accept (Spare to field kind want) = false
-is_accept (Tighten field kind amount) = false
-is_accept (Read field) = false
-is_accept (Share field) = false
-is_accept Restart = false
 
 -- A command is asked at a site of the schema, and takes in no statement: statements come by delivery alone.
 abbrev pub StepFits : SchemaValue → WorldStep → Type 0

@@ -2,11 +2,10 @@
 use Rattle.std.specs.Prelude.{◌≡◌, ℕ, List, length, reverse, map}
 use Rattle.field_bounds.specs.Schema.{SchemaValue}
 use Rattle.field_bounds.specs.declared.entry.Entry.{Entry}
-use Rattle.field_bounds.specs.declared.entry.Statement.{Statement}
 use Rattle.central_rules.specs.declared.verdict.Verdict.{Verdict}
 use Rattle.central_rules.specs.Verdict.{verdict_of, read_for}
 use Rattle.trace_weave.specs.Weave.{WeavesLowest, SticksAt, NoneWeaves}
-use Rattle.trace_weave.specs.Turn.{HoldsBack, IsReached, IsWoven}
+use Rattle.trace_weave.specs.Turn.{HoldsBack, IsWoven}
 use Rattle.woven_verdict.specs.declared.judged.Judged.{Judged}
 use Rattle.woven_verdict.specs.declared.fault.VerdictFault.{VerdictFault}
 use Rattle.woven_verdict.specs.declared.fault.VerdictFault.TheVariants.{Stuck, Unread, NoMemory}

@@ -1,8 +1,9 @@
-//! Which site a site is, and on which base it stands.
+//! Which site a site is, of which schema, and on which base it stands.
 
 ghost use Rattle.std.specs.Prelude.{◌≡◌, ◌++◌, ◌↔◌, IsTrue};
 ghost use Rattle.std.specs.List.{flat_map};
 ghost use Rattle.field_bounds.specs.Effects.{fresh};
+ghost use Rattle.field_bounds.specs.Limits.{IsSchema};
 ghost use Rattle.kept_records.specs.Text.{text};
 ghost use Rattle.site_step.specs.Site.{base_of};
 
@@ -12,6 +13,15 @@ use history::History;
 use kept_records::Medium;
 
 impl<M: Medium, H: History<Entry>> Site<M, H> {
+    /// The schema that the site is of, which is within its limits: the lines that ask the site are
+    /// read by it. Costs no memory.
+    pub fn schema(&self) -> &Schema
+        ensures value { result.now ≡ self.now.schema }
+        ensures limits { IsSchema self.now.schema }
+    {
+        &self.schema
+    }
+
     /// Whether the site has this number, and its schema equals this one. Costs a look at each
     /// field, and no memory.
     pub fn is_of(&self, schema: &Schema, number: SiteNo) -> bool

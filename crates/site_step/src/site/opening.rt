@@ -1,6 +1,6 @@
 //! What a site finds on the medium over which it is opened.
 
-ghost use Rattle.std.specs.Prelude.{◌≡◌, ◌<◌, ◌≤◌, ◌+◌, ◌^◌, List, [], ◌∷◌, ◌++◌, true, Some, length, IfOk, IfErr};
+ghost use Rattle.std.specs.Prelude.{◌≡◌, ◌<◌, ◌+◌, ◌^◌, List, [], ◌∷◌, ◌++◌, true, Some, length, IfOk, IfErr};
 ghost use Rattle.kept_records.specs.declared.record.Record.{Record};
 ghost use Rattle.kept_records.specs.Lent.{record_told};
 ghost use Rattle.kept_records.specs.declared.medium.MediumFault.TheVariants as faults;

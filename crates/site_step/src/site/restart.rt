@@ -1,12 +1,12 @@
 //! A restart: the site stands anew on what its medium holds.
 
-ghost use Rattle.std.specs.Prelude.{◌≡◌, ◌<◌, ◌≤◌, [], ◌∷◌, ◌++◌, List, ℕ, length, Some, OnErr, IfOk, vec_len, vec_capacity};
+ghost use Rattle.std.specs.Prelude.{◌≡◌, ◌<◌, ◌≤◌, [], ◌∷◌, ◌++◌, List, ℕ, length, Some, OnErr, IfOk};
 ghost use Rattle.field_bounds.specs.Owed.{max_epoch};
 ghost use Rattle.field_bounds.specs.Limits.{IsSchema};
 ghost use Rattle.kept_records.specs.declared.medium.Mishap.TheVariants.{Read};
 ghost use Rattle.field_bounds.specs.declared.entry.Command.TheVariants as commands;
 ghost use Rattle.kept_records.specs.declared.record.Record.{Record};
-ghost use Rattle.kept_records.specs.ReadingBack.{PartsAt, AreBehind, IsWhole};
+ghost use Rattle.kept_records.specs.ReadingBack.{PartsAt, IsWhole};
 ghost use Rattle.site_step.specs.Site.{Applies};
 ghost use Rattle.site_step.specs.Resuming.{HoldsBehind, IsReplayed, ResumesOver, ResumesAs, found_by};
 

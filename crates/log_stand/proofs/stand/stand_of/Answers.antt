@@ -22,7 +22,7 @@ loop-of-by_line-preserved-in-Some c =
     record {
       within = omega (arith, ap length same, c.in-Some.ensures.shorter, c.loop-of-by_line.invariant.within);
       front = front_more c.loop-of-by_line.invariant.front c.in-Some.ensures.handed same
-          (c.later-epoch.ensures ∙ ap (λ (r : Record). later c.loop-of-by_line.epoch r) c.whole-next.ensures.whole);
+          (c.epoch_behind-epoch.ensures.value ∙ ap (λ (r : Record). later c.loop-of-by_line.epoch r) c.whole-next.ensures.whole);
     }
 
 pub loop-of-by_line-smaller : goal.loop-of-by_line-smaller
@@ -36,7 +36,7 @@ loop-of-by_line-preserved c =
     let same = c.give_back-in-Record.ensures.same in
     record {
       within = omega (arith, ap length same, fewer _ _ _ at.parts, c.loop-of-by_line.invariant.within);
-      front = front_more c.loop-of-by_line.invariant.front at same c.later-epoch-in-Record.ensures;
+      front = front_more c.loop-of-by_line.invariant.front at same c.epoch_behind-epoch-in-Record.ensures.value;
     }
 
 pub overflow_sub-result : goal.overflow_sub-result

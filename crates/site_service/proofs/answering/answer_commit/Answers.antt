@@ -22,7 +22,7 @@ kept_with-requires c =
 
 pub returns-in_err-found-clause-left : goal.returns-in_err-found-clause-left
 returns-in_err-found-clause-left c = λ line count number asks.
-    any_err _ _ (left_still c.args.schema.now c.args.site.now.site c.args.site.now c.requires.schema refl c.args.keys.now.last c.args.told.now count number line)
+    any_err _ _ (left_still c.args.site.now.schema c.args.site.now.site c.args.site.now refl refl c.args.keys.now.last c.args.told.now count number line)
 
 pub returns-in_err-found-clause-grows : goal.returns-in_err-found-clause-grows
 returns-in_err-found-clause-grows c = goes_same c.args.site.now c.args.site.now refl c.requires.stands
@@ -39,7 +39,7 @@ returns-in-Kept-clause-ok c = λ line count number asks.
     let tells : TellsKey (held_of c.args.site.now) c.args.keys.now.last c.args.commit.key.bytes.now found =
     subst (λ (b : List ℕ). TellsKey b c.args.keys.now.last c.args.commit.key.bytes.now found) is c.in_ok-found.ensures.kept in
     on_ok_weaker c.add_kept_key.result
-    (λ added. told_refused c.args.schema.now c.args.site.now.site c.args.site.now c.requires.schema refl c.args.keys.now.last c.args.told.now count number line
+    (λ added. told_refused c.args.site.now.schema c.args.site.now.site c.args.site.now refl refl c.args.keys.now.last c.args.told.now count number line
     c.args.commit.txn c.args.commit.key.bytes.now c.args.commit.since asks found tells c.key_answer.result c.key_answer.ensures c.args.out.now.items c.add_kept_key.new.out.items
     (λ e. let other : Kept c.in-Kept.other ≡ No = sym c.in-Kept.is ∙ e in cc)
     (subst (λ (a : KeyAnswer). c.add_kept_key.new.out.items ≡ c.args.out.now.items ++ (kept_key_text c.args.commit.key.bytes.now ++ kept_key_words a))
@@ -47,7 +47,7 @@ returns-in-Kept-clause-ok c = λ line count number asks.
 
 pub returns-in-Kept-clause-left : goal.returns-in-Kept-clause-left
 returns-in-Kept-clause-left c = λ line count number asks.
-    any_err _ _ (left_still c.args.schema.now c.args.site.now.site c.args.site.now c.requires.schema refl c.args.keys.now.last c.args.told.now count number line)
+    any_err _ _ (left_still c.args.site.now.schema c.args.site.now.site c.args.site.now refl refl c.args.keys.now.last c.args.told.now count number line)
 
 pub returns-in-Kept-clause-grows : goal.returns-in-Kept-clause-grows
 returns-in-Kept-clause-grows c = goes_same c.args.site.now c.args.site.now refl c.requires.stands
@@ -64,7 +64,7 @@ returns-in-Forgotten-clause-ok c = λ line count number asks.
     let tells : TellsKey (held_of c.args.site.now) c.args.keys.now.last c.args.commit.key.bytes.now found =
     subst (λ (b : List ℕ). TellsKey b c.args.keys.now.last c.args.commit.key.bytes.now found) is c.in_ok-found.ensures.kept in
     on_ok_weaker c.add_kept_key-in-Forgotten.result
-    (λ added. told_refused c.args.schema.now c.args.site.now.site c.args.site.now c.requires.schema refl c.args.keys.now.last c.args.told.now count number line
+    (λ added. told_refused c.args.site.now.schema c.args.site.now.site c.args.site.now refl refl c.args.keys.now.last c.args.told.now count number line
     c.args.commit.txn c.args.commit.key.bytes.now c.args.commit.since asks found tells c.key_answer.result c.key_answer.ensures c.args.out.now.items c.add_kept_key-in-Forgotten.new.out.items
     (λ e. let other : Forgotten ≡ No = sym c.in-Forgotten.is ∙ e in cc)
     (subst (λ (a : KeyAnswer). c.add_kept_key-in-Forgotten.new.out.items ≡ c.args.out.now.items ++ (kept_key_text c.args.commit.key.bytes.now ++ kept_key_words a))
@@ -72,7 +72,7 @@ returns-in-Forgotten-clause-ok c = λ line count number asks.
 
 pub returns-in-Forgotten-clause-left : goal.returns-in-Forgotten-clause-left
 returns-in-Forgotten-clause-left c = λ line count number asks.
-    any_err _ _ (left_still c.args.schema.now c.args.site.now.site c.args.site.now c.requires.schema refl c.args.keys.now.last c.args.told.now count number line)
+    any_err _ _ (left_still c.args.site.now.schema c.args.site.now.site c.args.site.now refl refl c.args.keys.now.last c.args.told.now count number line)
 
 pub returns-in-Forgotten-clause-grows : goal.returns-in-Forgotten-clause-grows
 returns-in-Forgotten-clause-grows c = goes_same c.args.site.now c.args.site.now refl c.requires.stands
@@ -89,7 +89,7 @@ returns-in-No-clause-ok c = λ line count number asks.
     let tells : TellsKey (held_of c.args.site.now) c.args.keys.now.last c.args.commit.key.bytes.now found =
     subst (λ (b : List ℕ). TellsKey b c.args.keys.now.last c.args.commit.key.bytes.now found) is c.in_ok-found.ensures.kept in
     on_ok_weaker c.commit_spelled.result
-    (told_committed c.args.schema.now c.args.site.now.site c.args.site.now c.requires.schema refl c.args.keys.now.last c.args.told.now count number line
+    (told_committed c.args.site.now.schema c.args.site.now.site c.args.site.now refl refl c.args.keys.now.last c.args.told.now count number line
     c.args.commit.txn c.args.commit.key.bytes.now c.args.commit.since asks found tells c.key_answer.result c.key_answer.ensures c.in-No.is c.commit_spelled.new.site c.commit_spelled.new.keys.last c.args.out.now.items c.commit_spelled.new.out.items)
     c.commit_spelled.ensures.ok
 
@@ -100,7 +100,7 @@ returns-in-No-clause-left c = λ line count number asks.
     let tells : TellsKey (held_of c.args.site.now) c.args.keys.now.last c.args.commit.key.bytes.now found =
     subst (λ (b : List ℕ). TellsKey b c.args.keys.now.last c.args.commit.key.bytes.now found) is c.in_ok-found.ensures.kept in
     on_err_weaker c.commit_spelled.result
-    (left_committed c.args.schema.now c.args.site.now.site c.args.site.now c.requires.schema refl c.args.keys.now.last c.args.told.now count number line
+    (left_committed c.args.site.now.schema c.args.site.now.site c.args.site.now refl refl c.args.keys.now.last c.args.told.now count number line
     c.args.commit.txn c.args.commit.key.bytes.now c.args.commit.since asks found tells c.key_answer.result c.key_answer.ensures c.in-No.is c.commit_spelled.new.site c.commit_spelled.new.keys.last) c.commit_spelled.ensures.left
 
 pub returns-in-No-clause-grows : goal.returns-in-No-clause-grows

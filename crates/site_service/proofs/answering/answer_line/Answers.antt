@@ -15,14 +15,14 @@ pub returns-in-Ok-Do-clause-ok : goal.returns-in-Ok-Do-clause-ok
 returns-in-Ok-Do-clause-ok c = λ count.
     let asks = rw c.in-Ok-Do.field-0-is at c.in-Ok-Do.ensures.ok in
     on_ok_weaker c.carry_out_spelled.result
-    (told_command c.args.schema.now c.site.result c.args.site.now c.requires.schema c.site.ensures.value c.args.keys.now.last c.args.told.now count c.args.number c.args.out.now.items
+    (told_command c.schema.result.now c.site.result c.args.site.now c.schema.ensures.value c.site.ensures.value c.args.keys.now.last c.args.told.now count c.args.number c.args.out.now.items
     c.carry_out_spelled.new.out.items c.args.line.now c.in-Ok-Do.command c.carry_out_spelled.new.site asks) c.carry_out_spelled.ensures.ok
 
 pub returns-in-Ok-Do-clause-left : goal.returns-in-Ok-Do-clause-left
 returns-in-Ok-Do-clause-left c = λ count.
     let asks = rw c.in-Ok-Do.field-0-is at c.in-Ok-Do.ensures.ok in
     on_err_weaker c.carry_out_spelled.result
-    (left_command c.args.schema.now c.site.result c.args.site.now c.requires.schema c.site.ensures.value c.args.keys.now.last c.args.told.now count c.args.number c.args.line.now c.in-Ok-Do.command
+    (left_command c.schema.result.now c.site.result c.args.site.now c.schema.ensures.value c.site.ensures.value c.args.keys.now.last c.args.told.now count c.args.number c.args.line.now c.in-Ok-Do.command
     c.carry_out_spelled.new.site asks) c.carry_out_spelled.ensures.left
 
 pub returns-in-Ok-Do-clause-long : goal.returns-in-Ok-Do-clause-long
@@ -41,8 +41,7 @@ returns-in-Ok-Do-clause-index c =
 
 pub answer_commit-requires : goal.answer_commit-requires
 answer_commit-requires c = record {
-  schema = c.requires.schema;
-  spelled = (spells c.args.schema.now c.site.result c.args.site.now.site c.args.line.now c.in-Ok-Commit.commit c.site.ensures.value
+  spelled = (spells c.schema.result.now c.site.result c.args.site.now c.args.line.now c.in-Ok-Commit.commit c.schema.ensures.value c.site.ensures.value
       (rw c.in-Ok-Commit.field-0-is at c.in-Ok-Commit.ensures.ok)).spelled;
   stands = c.requires.stands;
   index = c.requires.index;
@@ -51,13 +50,13 @@ answer_commit-requires c = record {
 pub returns-in-Ok-Commit-clause-ok : goal.returns-in-Ok-Commit-clause-ok
 returns-in-Ok-Commit-clause-ok c = λ count.
     c.answer_commit.ensures.ok c.args.line.now count c.args.number
-    (spells c.args.schema.now c.site.result c.args.site.now.site c.args.line.now c.in-Ok-Commit.commit c.site.ensures.value
+    (spells c.schema.result.now c.site.result c.args.site.now c.args.line.now c.in-Ok-Commit.commit c.schema.ensures.value c.site.ensures.value
     (rw c.in-Ok-Commit.field-0-is at c.in-Ok-Commit.ensures.ok)).asks
 
 pub returns-in-Ok-Commit-clause-left : goal.returns-in-Ok-Commit-clause-left
 returns-in-Ok-Commit-clause-left c = λ count.
     c.answer_commit.ensures.left c.args.line.now count c.args.number
-    (spells c.args.schema.now c.site.result c.args.site.now.site c.args.line.now c.in-Ok-Commit.commit c.site.ensures.value
+    (spells c.schema.result.now c.site.result c.args.site.now c.args.line.now c.in-Ok-Commit.commit c.schema.ensures.value c.site.ensures.value
     (rw c.in-Ok-Commit.field-0-is at c.in-Ok-Commit.ensures.ok)).asks
 
 pub returns-in-Ok-Commit-clause-long : goal.returns-in-Ok-Commit-clause-long
@@ -78,12 +77,12 @@ returns-in-Ok-Kept-clause-ok c = λ count.
     let asks = rw c.in-Ok-Kept.field-0-is at c.in-Ok-Kept.ensures.ok in
     let is : c.bytes.result.now ≡ held_of c.args.site.now = c.bytes.ensures.bytes ∙ held_medium c.args.site.now c.medium.ensures.bytes in
     on_ok_weaker c.tell_commit.result
-    (λ told. told_commit c.args.schema.now c.site.result c.args.site.now c.requires.schema c.site.ensures.value c.args.keys.now.last c.args.told.now count c.args.number c.args.out.now.items
+    (λ told. told_commit c.schema.result.now c.site.result c.args.site.now c.schema.ensures.value c.site.ensures.value c.args.keys.now.last c.args.told.now count c.args.number c.args.out.now.items
     c.tell_commit.new.out.items c.args.line.now c.in-Ok-Kept.txn asks
     (told.0, subst (λ (b : List ℕ). TellsCommit b c.in-Ok-Kept.txn told.0) is told.1, told.2)) c.tell_commit.ensures.ok
 
 pub returns-in-Ok-Kept-clause-left : goal.returns-in-Ok-Kept-clause-left
-returns-in-Ok-Kept-clause-left c = λ count. any_err _ _ (left_still c.args.schema.now c.site.result c.args.site.now c.requires.schema c.site.ensures.value c.args.keys.now.last c.args.told.now count c.args.number c.args.line.now)
+returns-in-Ok-Kept-clause-left c = λ count. any_err _ _ (left_still c.schema.result.now c.site.result c.args.site.now c.schema.ensures.value c.site.ensures.value c.args.keys.now.last c.args.told.now count c.args.number c.args.line.now)
 
 pub returns-in-Ok-Kept-clause-long : goal.returns-in-Ok-Kept-clause-long
 returns-in-Ok-Kept-clause-long c = λ count whole long more. absurd (omega (arith, long, c.in-Ok-Kept.ensures.short))
@@ -111,12 +110,12 @@ returns-in-Ok-KeptKey-clause-ok c = λ count.
     let asks = rw c.in-Ok-KeptKey.field-0-is at c.in-Ok-KeptKey.ensures.ok in
     let is : c.bytes-log.result.now ≡ held_of c.args.site.now = c.bytes-log.ensures.bytes ∙ held_medium c.args.site.now c.medium-in-Ok-KeptKey.ensures.bytes in
     on_ok_weaker c.tell_key.result
-    (λ told. told_key c.args.schema.now c.site.result c.args.site.now c.requires.schema c.site.ensures.value c.args.keys.now.last c.args.told.now count c.args.number c.args.out.now.items
+    (λ told. told_key c.schema.result.now c.site.result c.args.site.now c.schema.ensures.value c.site.ensures.value c.args.keys.now.last c.args.told.now count c.args.number c.args.out.now.items
     c.tell_key.new.out.items c.args.line.now c.in-Ok-KeptKey.key.bytes.now c.in-Ok-KeptKey.since asks
     (told.0, subst (λ (b : List ℕ). TellsKey b c.args.keys.now.last c.in-Ok-KeptKey.key.bytes.now told.0) is told.1, told.2)) c.tell_key.ensures.ok
 
 pub returns-in-Ok-KeptKey-clause-left : goal.returns-in-Ok-KeptKey-clause-left
-returns-in-Ok-KeptKey-clause-left c = λ count. any_err _ _ (left_still c.args.schema.now c.site.result c.args.site.now c.requires.schema c.site.ensures.value c.args.keys.now.last c.args.told.now count c.args.number c.args.line.now)
+returns-in-Ok-KeptKey-clause-left c = λ count. any_err _ _ (left_still c.schema.result.now c.site.result c.args.site.now c.schema.ensures.value c.site.ensures.value c.args.keys.now.last c.args.told.now count c.args.number c.args.line.now)
 
 pub returns-in-Ok-KeptKey-clause-long : goal.returns-in-Ok-KeptKey-clause-long
 returns-in-Ok-KeptKey-clause-long c = λ count whole long more. absurd (omega (arith, long, c.in-Ok-KeptKey.ensures.short))
@@ -134,16 +133,16 @@ returns-in-Ok-KeptKey-clause-index c =
 pub returns-in-Err-clause-ok : goal.returns-in-Err-clause-ok
 returns-in-Err-clause-ok c = λ count.
     on_ok_weaker c.add_bad.result
-    (told_bad c.args.schema.now c.site.result c.args.site.now c.requires.schema c.site.ensures.value c.args.keys.now.last c.args.told.now count c.args.number c.args.out.now.items
+    (told_bad c.schema.result.now c.site.result c.args.site.now c.schema.ensures.value c.site.ensures.value c.args.keys.now.last c.args.told.now count c.args.number c.args.out.now.items
     c.add_bad.new.out.items c.args.line.now c.in-Err.why c.in-Err.ensures.err) c.add_bad.ensures.ok
 
 pub returns-in-Err-clause-left : goal.returns-in-Err-clause-left
-returns-in-Err-clause-left c = λ count. any_err _ _ (left_still c.args.schema.now c.site.result c.args.site.now c.requires.schema c.site.ensures.value c.args.keys.now.last c.args.told.now count c.args.number c.args.line.now)
+returns-in-Err-clause-left c = λ count. any_err _ _ (left_still c.schema.result.now c.site.result c.args.site.now c.schema.ensures.value c.site.ensures.value c.args.keys.now.last c.args.told.now count c.args.number c.args.line.now)
 
 pub returns-in-Err-clause-long : goal.returns-in-Err-clause-long
 returns-in-Err-clause-long c = λ count whole long more.
     on_ok_weaker c.add_bad.result
-    (told_long c.args.schema.now c.site.result c.args.site.now c.requires.schema c.site.ensures.value c.args.keys.now.last c.args.told.now count c.args.number c.args.out.now.items
+    (told_long c.schema.result.now c.site.result c.args.site.now c.schema.ensures.value c.site.ensures.value c.args.keys.now.last c.args.told.now count c.args.number c.args.out.now.items
     c.add_bad.new.out.items c.args.line.now whole c.in-Err.why long more c.in-Err.ensures.err) c.add_bad.ensures.ok
 
 pub returns-in-Err-clause-grows : goal.returns-in-Err-clause-grows

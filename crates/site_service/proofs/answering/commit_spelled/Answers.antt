@@ -1,16 +1,14 @@
-use Rattle.std.proofs.Common.{sym, ap, ◌∙◌, inl, inr}
+use Rattle.std.proofs.Common.{◌∙◌, inl, inr}
 use Rattle.std.proofs.lemmas.Result.{on_ok_weaker}
-use Rattle.field_bounds.specs.declared.id.SiteNo.{SiteNo}
 use Rattle.field_bounds.specs.declared.entry.Command.TheVariants.{Commit}
-use Rattle.entry_text.specs.Spelling.{command_text}
 use Rattle.site_service.proofs.Held.{goes_by, goes_same}
-use Rattle.site_service.proofs.Told.{commits_with, any_err}
+use Rattle.site_service.proofs.Told.{commits_with, any_err, spells_as}
 use Rattle.site_service.proofs.answering.commit_spelled.Goals as goal
 
 pub add_spelled-requires : goal.add_spelled-requires
 add_spelled-requires c = record {
-  spelled = c.requires.spelled
-      ∙ ap (λ (n : SiteNo). command_text c.args.schema.now n (Commit c.args.commit.txn)) (sym c.site-number.ensures.value);
+  spelled = spells_as c.schema.result.now c.site-number.result c.args.site.now c.args.commit.spelled.now (Commit c.args.commit.txn)
+      (c.schema.ensures.value ∙ c.in_ok-reply.ensures.ok.same.schema) c.site-number.ensures.value c.requires.spelled;
 }
 
 pub returns-in_err-reply-clause-left : goal.returns-in_err-reply-clause-left
@@ -24,7 +22,7 @@ returns-clause-ok c =
     on_ok_weaker c.add_spelled.result
     (λ added. (
       _,
-      commits_with c.args.schema.now c.site-number.result c.args.site.now c.commit_and_note.new.site c.requires.schema c.site-number.ensures.value
+      commits_with c.schema.result.now c.site-number.result c.args.site.now c.commit_and_note.new.site (c.schema.ensures.value ∙ c.in_ok-reply.ensures.ok.same.schema) c.site-number.ensures.value
           c.args.commit.txn c.in_ok-reply.reply c.in_ok-reply.ensures.ok c.args.keys.now.last c.commit_and_note.new.keys.last c.args.commit.key.bytes.now
           c.in_ok-reply.ensures.noted,
       added,
@@ -35,7 +33,7 @@ returns-clause-left c =
     any_err _ _
     (inr (
       _,
-      commits_with c.args.schema.now c.site-number.result c.args.site.now c.commit_and_note.new.site c.requires.schema c.site-number.ensures.value
+      commits_with c.schema.result.now c.site-number.result c.args.site.now c.commit_and_note.new.site (c.schema.ensures.value ∙ c.in_ok-reply.ensures.ok.same.schema) c.site-number.ensures.value
           c.args.commit.txn c.in_ok-reply.reply c.in_ok-reply.ensures.ok c.args.keys.now.last c.commit_and_note.new.keys.last c.args.commit.key.bytes.now
           c.in_ok-reply.ensures.noted,
     ))

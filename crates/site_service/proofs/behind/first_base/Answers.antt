@@ -4,13 +4,13 @@ use Rattle.site_service.proofs.behind.first_base.Goals as goal
 
 pub returns-in-Record-clause-some : goal.returns-in-Record-clause-some
 returns-in-Record-clause-some c =
-    starts_if c.summary_of.result c.args.records.now c.in-Record.kept c.next_line.new.self.left
-    (at_line c.next_line.new.self.left c.new-lines.ensures.all c.in_ok-line.ensures.handed c.in-Record.is) c.summary_of.ensures.some
+    starts_if c.into_summary.result c.args.records.now c.in-Record.kept c.next_line.new.self.left
+    (at_line c.next_line.new.self.left c.new-lines.ensures.all c.in_ok-line.ensures.handed c.in-Record.is) c.into_summary.ensures.some
 
 pub returns-in-Record-clause-none : goal.returns-in-Record-clause-none
 returns-in-Record-clause-none c =
-    none_if c.summary_of.result c.args.records.now c.in-Record.kept c.next_line.new.self.left
-    (at_line c.next_line.new.self.left c.new-lines.ensures.all c.in_ok-line.ensures.handed c.in-Record.is) c.summary_of.ensures.none
+    none_if c.into_summary.result c.args.records.now c.in-Record.kept c.next_line.new.self.left
+    (at_line c.next_line.new.self.left c.new-lines.ensures.all c.in_ok-line.ensures.handed c.in-Record.is) c.into_summary.ensures.none
 
 pub returns-in-NoRecord-clause-none : goal.returns-in-NoRecord-clause-none
 returns-in-NoRecord-clause-none c = λ base starts.

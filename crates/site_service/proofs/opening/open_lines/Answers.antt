@@ -17,7 +17,7 @@ returns-in_err-held g c =
       none = tt;
       opens = tt;
       whole = tt;
-      line = names_none c.args.schema.now c.args.number known _;
+      line = names_none c.args.schema c.args.number known _;
       kept = keeps_still known (g.F.LogFile.safe c.args.log.now) _ c.read_lines.ensures.safe;
       least = spares_still known (g.F.LogFile.least c.args.log.now) _ c.read_lines.ensures.least;
       same_bytes = λ n is. c.read_lines.ensures.bytes;
@@ -57,7 +57,7 @@ returns-in_err-site g c =
       none = tt;
       opens = tt;
       whole = tt;
-      line = names_line c.args.schema.now c.args.number known c.in_ok-held.held.lines.items c.in_ok-keys.keys.last c.in_ok-keys.records.items _
+      line = names_line c.args.schema c.args.number known c.in_ok-held.held.lines.items c.in_ok-keys.keys.last c.in_ok-keys.records.items _
           (record { lines = c.in_ok-held.ensures.lines; is = c.in_ok-keys.ensures.is }) c.in_err-site.ensures.line c.in_err-site.ensures.never;
       kept = keeps_still known (g.F.LogFile.safe c.args.log.now) _ c.read_lines.ensures.safe;
       least = spares_still known (g.F.LogFile.least c.args.log.now) _ c.read_lines.ensures.least;
@@ -87,7 +87,7 @@ returns-in_err-keep_lines g c =
       none = tt;
       opens = tt;
       whole = tt;
-      line = names_none c.args.schema.now c.args.number known _;
+      line = names_none c.args.schema c.args.number known _;
       kept = keeps_from known _ _ _ _ c.read_lines.ensures.bytes c.read_lines.ensures.safe c.in_err-keep_lines.ensures.kept;
       least = spares_from known _ _ _ _ c.read_lines.ensures.bytes c.read_lines.ensures.least c.in_err-keep_lines.ensures.least;
       same_bytes = λ n is. absurd (not_a_line _ n is);
@@ -113,7 +113,7 @@ returns g c =
         c.in_ok-keep_lines.ensures.safe held there,
       );
       none = c.in_ok-keys.ensures.none;
-      opens = subst (λ (bytes : List ℕ). Opens c.args.schema.now c.args.number bytes 0 site) (sym c.in_ok-site.ensures.opens.bytes)
+      opens = subst (λ (bytes : List ℕ). Opens c.args.schema c.args.number bytes 0 site) (sym c.in_ok-site.ensures.opens.bytes)
           c.in_ok-site.ensures.opens;
       whole = c.in_ok-site.ensures.whole;
       line = tt;

@@ -6,11 +6,11 @@ use Rattle.site_handle.proofs.session.Session.ask.Goals as goal
 
 pub invariant_of-self-2 : goal.invariant_of-self-2
 invariant_of-self-2 c =
-    sound_by c.self.inside.schema c.self.inside.site c.apply.new.self c.args.command c.in_ok-reply.reply c.self.invariant
+    sound_by c.self.inside.site c.apply.new.self c.args.command c.in_ok-reply.reply c.self.invariant
     c.in_ok-reply.ensures.ok
 
 pub returns-clause-ok : goal.returns-clause-ok
 returns-clause-ok c =
     subst (λ (before : SiteValue). Answers before c.args.command c.in_ok-reply.reply c.apply.new.self) c.self.view_is
-    (answers_by c.self.inside.schema c.self.inside.site c.apply.new.self c.args.command c.in_ok-reply.reply c.self.invariant
+    (answers_by c.self.inside.site c.apply.new.self c.args.command c.in_ok-reply.reply c.self.invariant
     c.in_ok-reply.ensures.ok)

@@ -10,7 +10,7 @@ use Rattle.site_service.proofs.service.Service.answer.Goals as goal
 pub invariant_of-self : goal.invariant_of-self
 invariant_of-self g c =
     let s = c.self.inside in
-    sound_grows s.schema s.site s.keys.last s.told s.lines s.waiting.items (g.F.LogFile.bytes s.log) (g.F.LogFile.safe s.log) (g.F.LogFile.least s.log) s.settled
+    sound_grows s.site s.keys.last s.told s.lines s.waiting.items (g.F.LogFile.bytes s.log) (g.F.LogFile.safe s.log) (g.F.LogFile.least s.log) s.settled
     s.lost s.kept s.keys.lines c.self.invariant c.answer_line.new.site c.answer_line.new.keys.last (one_more s.lines) c.answer_line.new.out.items
     c.answer_line.new.kept c.answer_line.new.keys.lines c.answer_line.ensures.grows c.answer_line.ensures.index c.answer_line.ensures.behind
 

@@ -12,7 +12,7 @@ pub invariant_of-self : goal.invariant_of-self
 invariant_of-self g c =
     let s = c.self.inside in
     let grows = c.carry_out.ensures.grows c.self.invariant.linked.stands in
-    sound_grows s.schema s.site s.keys.last s.told s.lines s.waiting.items (g.F.LogFile.bytes s.log) (g.F.LogFile.safe s.log) (g.F.LogFile.least s.log) s.settled
+    sound_grows s.site s.keys.last s.told s.lines s.waiting.items (g.F.LogFile.bytes s.log) (g.F.LogFile.safe s.log) (g.F.LogFile.least s.log) s.settled
     s.lost s.kept s.keys.lines c.self.invariant c.carry_out.new.site s.keys.last s.lines c.carry_out.new.out.items s.kept s.keys.lines grows
     (index_grows s.kept (held_of s.site) (held_of c.carry_out.new.site) grows.added c.self.invariant.index
     (held_goes s.site c.carry_out.new.site c.self.invariant.linked.stands grows)) (λ notes behind. behind)

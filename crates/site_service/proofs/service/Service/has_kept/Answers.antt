@@ -40,12 +40,12 @@ pub invariant_of-self : goal.invariant_of-self
 invariant_of-self g c =
     let s = c.self.inside in
     let is : c.bytes.result.now ≡ held_of s.site = c.bytes.ensures.bytes ∙ held_medium c.self.inside.site c.medium.ensures.bytes in
-    sound_looked s.schema s.site s.keys.last s.told s.lines s.waiting.items (g.F.LogFile.bytes s.log) (g.F.LogFile.safe s.log) (g.F.LogFile.least s.log) s.settled
+    sound_looked s.site s.keys.last s.told s.lines s.waiting.items (g.F.LogFile.bytes s.log) (g.F.LogFile.safe s.log) (g.F.LogFile.least s.log) s.settled
     s.lost s.kept s.keys.lines c.self.invariant c.holds.new.self (subst (IsIndexOf c.holds.new.self) is c.holds.ensures.index)
 
 pub invariant_of-self-2 : goal.invariant_of-self-2
 invariant_of-self-2 g c =
     let s = c.self.inside in
     let is : c.bytes.result.now ≡ held_of s.site = c.bytes.ensures.bytes ∙ held_medium c.self.inside.site c.medium.ensures.bytes in
-    sound_looked s.schema s.site s.keys.last s.told s.lines s.waiting.items (g.F.LogFile.bytes s.log) (g.F.LogFile.safe s.log) (g.F.LogFile.least s.log) s.settled
+    sound_looked s.site s.keys.last s.told s.lines s.waiting.items (g.F.LogFile.bytes s.log) (g.F.LogFile.safe s.log) (g.F.LogFile.least s.log) s.settled
     s.lost s.kept s.keys.lines c.self.invariant c.holds.new.self (subst (IsIndexOf c.holds.new.self) is c.holds.ensures.index)

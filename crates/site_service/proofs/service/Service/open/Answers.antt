@@ -23,7 +23,6 @@ pub start-requires : goal.start-requires
 start-requires g c =
     let lines = c.in-Ok.ensures.lines in
     record {
-      own = c.in-Ok.ensures.opens.schema;
       stands = stands_whole c.in-Ok.opened.site c.in-Ok.ensures.whole;
       let_go = record { none = λ told. c.in-Ok.ensures.whole.held; horizon = λ txn has. none_has c.in-Ok.opened.site.gone txn c.in-Ok.ensures.whole.held has };
       none = c.in-Ok.ensures.none;

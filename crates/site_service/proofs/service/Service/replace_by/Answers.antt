@@ -17,7 +17,7 @@ invariant_of-self g c =
     let link = c.self.invariant.linked in
     let copied : c.as_slice.result.now ≡ c.args.shorter.text.items = c.as_slice.ensures.value in
     sound_shorter s.site s.keys.last s.told s.lines link.stands link.let_go c.args.plan is c.args.shorter made c.shorten.new.self c.shorten.ensures.same
-    s.schema link.own s.waiting.items (g.F.LogFile.bytes c.replace.new.self) (g.F.LogFile.safe c.replace.new.self) (g.F.LogFile.least c.replace.new.self)
+    s.waiting.items (g.F.LogFile.bytes c.replace.new.self) (g.F.LogFile.safe c.replace.new.self) (g.F.LogFile.least c.replace.new.self)
     (length c.held.result.now) (ap length c.held.ensures.all) s.lost
     (subst (IsCopyOf (g.F.LogFile.bytes c.replace.new.self)) copied c.in-Ok.ensures.bytes)
     (subst (IsCopyOf (g.F.LogFile.safe c.replace.new.self)) copied c.in-Ok.ensures.safe)
@@ -30,7 +30,7 @@ returns-in-Ok-clause-ok g c =
     let link = c.self.invariant.linked in
     let copied : c.as_slice.result.now ≡ c.args.shorter.text.items = c.as_slice.ensures.value in
     settled_shorter s.site s.keys.last s.told s.lines link.stands link.let_go c.args.plan is c.args.shorter made c.shorten.new.self c.shorten.ensures.same
-    s.schema link.own s.waiting.items (g.F.LogFile.bytes c.replace.new.self) (g.F.LogFile.safe c.replace.new.self) (g.F.LogFile.least c.replace.new.self)
+    s.waiting.items (g.F.LogFile.bytes c.replace.new.self) (g.F.LogFile.safe c.replace.new.self) (g.F.LogFile.least c.replace.new.self)
     (length c.held.result.now) (ap length c.held.ensures.all) s.lost
     (subst (IsCopyOf (g.F.LogFile.bytes c.replace.new.self)) copied c.in-Ok.ensures.bytes)
     (subst (IsCopyOf (g.F.LogFile.safe c.replace.new.self)) copied c.in-Ok.ensures.safe)
@@ -52,14 +52,14 @@ pub invariant_of-self-in-Err-Refused : goal.invariant_of-self-in-Err-Refused
 invariant_of-self-in-Err-Refused g c =
     let s = c.self.inside in
     let same = c.in-Err-Refused.ensures.refused c.in-Err-Refused.field-0-is in
-    sound_put s.schema s.site s.keys.last s.told s.lines s.waiting.items (g.F.LogFile.bytes s.log) (g.F.LogFile.safe s.log) (g.F.LogFile.least s.log) s.settled
+    sound_put s.site s.keys.last s.told s.lines s.waiting.items (g.F.LogFile.bytes s.log) (g.F.LogFile.safe s.log) (g.F.LogFile.least s.log) s.settled
     s.lost s.kept s.keys.lines c.self.invariant (g.F.LogFile.bytes c.replace.new.self) (g.F.LogFile.safe c.replace.new.self)
     (g.F.LogFile.least c.replace.new.self) same.0 same.1 same.2
 
 pub invariant_of-self-in-Err-Failed : goal.invariant_of-self-in-Err-Failed
 invariant_of-self-in-Err-Failed g c =
     let s = c.self.inside in
-    sound_lost s.schema s.site s.keys.last s.told s.lines s.waiting.items (g.F.LogFile.bytes s.log) (g.F.LogFile.safe s.log) (g.F.LogFile.least s.log) s.settled
+    sound_lost s.site s.keys.last s.told s.lines s.waiting.items (g.F.LogFile.bytes s.log) (g.F.LogFile.safe s.log) (g.F.LogFile.least s.log) s.settled
     s.lost s.kept s.keys.lines c.self.invariant (g.F.LogFile.least c.replace.new.self) (g.F.LogFile.bytes c.replace.new.self)
     (g.F.LogFile.safe c.replace.new.self)
 

@@ -18,7 +18,7 @@ invariant_of-self g c =
     ≡ append_known (append_known (g.F.LogFile.bytes s.log) s.keys.lines) (drop s.settled (held_of s.site)) =
     c.in-Ok.ensures.added ∙ ap (λ (l : List ℕ). append_known (append_known (g.F.LogFile.bytes s.log) l) (take (length c.bytes-held.result.now - s.settled) (drop s.settled c.bytes-held.result.now))) c.lines.ensures.value
     ∙ ap (append_known (append_known (g.F.LogFile.bytes s.log) s.keys.lines)) rest in
-    sound_follows s.schema s.site s.keys.last s.told s.lines s.waiting.items (g.F.LogFile.bytes s.log) (g.F.LogFile.safe s.log) (g.F.LogFile.least s.log) s.settled
+    sound_follows s.site s.keys.last s.told s.lines s.waiting.items (g.F.LogFile.bytes s.log) (g.F.LogFile.safe s.log) (g.F.LogFile.least s.log) s.settled
     s.lost s.kept s.keys.lines c.self.invariant c.clear_lines.new.self.last (g.F.LogFile.least c.add_both.new.file) (g.F.LogFile.bytes c.add_both.new.file)
     (g.F.LogFile.safe c.add_both.new.file) (length c.bytes-held.result.now) c.clear_lines.new.self.lines c.clear_lines.ensures.last c.if-self.false
     grown c.in-Ok.ensures.safe (ap length is) c.clear_lines.ensures.none
@@ -32,7 +32,7 @@ returns-in-Ok-clause-ok g c =
     ≡ append_known (append_known (g.F.LogFile.bytes s.log) s.keys.lines) (drop s.settled (held_of s.site)) =
     c.in-Ok.ensures.added ∙ ap (λ (l : List ℕ). append_known (append_known (g.F.LogFile.bytes s.log) l) (take (length c.bytes-held.result.now - s.settled) (drop s.settled c.bytes-held.result.now))) c.lines.ensures.value
     ∙ ap (append_known (append_known (g.F.LogFile.bytes s.log) s.keys.lines)) rest in
-    settled_follows s.schema s.site s.keys.last s.told s.lines s.waiting.items (g.F.LogFile.bytes s.log) (g.F.LogFile.safe s.log) (g.F.LogFile.least s.log) s.settled
+    settled_follows s.site s.keys.last s.told s.lines s.waiting.items (g.F.LogFile.bytes s.log) (g.F.LogFile.safe s.log) (g.F.LogFile.least s.log) s.settled
     s.lost s.kept s.keys.lines c.self.invariant c.clear_lines.new.self.last (g.F.LogFile.least c.add_both.new.file) (g.F.LogFile.bytes c.add_both.new.file)
     (g.F.LogFile.safe c.add_both.new.file) (length c.bytes-held.result.now) c.clear_lines.ensures.last c.if-self.false grown c.in-Ok.ensures.safe
 
@@ -46,7 +46,7 @@ returns-in-Ok-clause-order g c = λ text log.
     c.in-Ok.ensures.added ∙ ap (λ (l : List ℕ). append_known (append_known (g.F.LogFile.bytes s.log) l) (take (length c.bytes-held.result.now - s.settled) (drop s.settled c.bytes-held.result.now))) c.lines.ensures.value
     ∙ ap (append_known (append_known (g.F.LogFile.bytes s.log) s.keys.lines)) rest in
     subst (λ (v : ServiceValue). IsCopyOf v.log text → AddsNotesFirst (g.F.LogFile.bytes c.add_both.new.file) text v.settled (held_in v.served))
-    c.self.view_is (adds_first s.schema s.site s.keys.last s.told s.lines s.waiting.items (g.F.LogFile.bytes s.log) (g.F.LogFile.safe s.log) (g.F.LogFile.least s.log) s.settled
+    c.self.view_is (adds_first s.site s.keys.last s.told s.lines s.waiting.items (g.F.LogFile.bytes s.log) (g.F.LogFile.safe s.log) (g.F.LogFile.least s.log) s.settled
     s.lost s.kept s.keys.lines c.self.invariant (g.F.LogFile.bytes c.add_both.new.file) grown text) log
 
 pub returns-then-is_logged-clause-order : goal.returns-then-is_logged-clause-order
@@ -65,7 +65,7 @@ returns-in-Ok-clause-front g c = λ text log safe.
 pub invariant_of-self-in-Err : goal.invariant_of-self-in-Err
 invariant_of-self-in-Err g c =
     let s = c.self.inside in
-    sound_lost s.schema s.site s.keys.last s.told s.lines s.waiting.items (g.F.LogFile.bytes s.log) (g.F.LogFile.safe s.log) (g.F.LogFile.least s.log) s.settled
+    sound_lost s.site s.keys.last s.told s.lines s.waiting.items (g.F.LogFile.bytes s.log) (g.F.LogFile.safe s.log) (g.F.LogFile.least s.log) s.settled
     s.lost s.kept s.keys.lines c.self.invariant (g.F.LogFile.least c.add_both.new.file) (g.F.LogFile.bytes c.add_both.new.file) (g.F.LogFile.safe c.add_both.new.file)
 
 pub returns-then-is_logged-clause-ok : goal.returns-then-is_logged-clause-ok
@@ -73,5 +73,5 @@ returns-then-is_logged-clause-ok g c =
     let s = c.self.inside in
     let is : c.bytes-held.result.now ≡ held_of s.site = c.bytes-held.ensures.bytes ∙ held_medium c.self.inside.site c.medium.ensures.bytes in
     subst IsSettled c.self.view_is
-    (settled_all s.schema s.site s.keys.last s.told s.lines s.waiting.items (g.F.LogFile.bytes s.log) (g.F.LogFile.safe s.log) (g.F.LogFile.least s.log) s.settled
+    (settled_all s.site s.keys.last s.told s.lines s.waiting.items (g.F.LogFile.bytes s.log) (g.F.LogFile.safe s.log) (g.F.LogFile.least s.log) s.settled
     s.lost s.kept s.keys.lines c.self.invariant c.if-self.false (c.if-self-all.true ∙ ap length is) (c.is_logged.ensures.none c.if-is_logged.true))

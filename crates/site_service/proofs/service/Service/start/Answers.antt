@@ -7,9 +7,9 @@ use Rattle.site_service.proofs.service.Service.start.Goals as goal
 
 pub invariant_of-service : goal.invariant_of-service
 invariant_of-service g c =
-    sound_opened c.args.schema c.args.opened.site c.args.opened.keys.last c.args.told 0 c.new-2.result.items (g.F.LogFile.bytes c.args.log)
+    sound_opened c.args.opened.site c.args.opened.keys.last c.args.told 0 c.new-2.result.items (g.F.LogFile.bytes c.args.log)
     (g.F.LogFile.safe c.args.log) (g.F.LogFile.least c.args.log) (length c.bytes-settled.result.now) c.new.result c.args.opened.keys.lines
-    c.requires.own c.requires.stands c.requires.let_go (ap length (c.bytes-settled.ensures.bytes ∙ held_medium c.args.opened.site c.medium.ensures.bytes)) c.requires.text
+    c.requires.stands c.requires.let_go (ap length (c.bytes-settled.ensures.bytes ∙ held_medium c.args.opened.site c.medium.ensures.bytes)) c.requires.text
     (c.new.ensures.none (held_of c.args.opened.site)) c.requires.none
 
 pub returns-in-Ok : goal.returns-in-Ok
