@@ -26,8 +26,8 @@ abbrev pub base_epoch : List Record → ℕ
 base_epoch [] = 0
 base_epoch (r ∷ rs) = epoch_told r
 
--- Of the records that are held, as they are counted: the epoch is that of the last restart behind the base, or that which the base
--- tells; and the length is that of their texts and of those that are gone.
+-- Of the records that are held, as they are counted: the epoch is the greatest of a restart behind the base, or that which the base
+-- tells, where that is greater; and the length is that of their texts and of those that are gone.
 pub record IsStandBehind (gone : Gone) (bytes : List ℕ) (stand : Stand) : Type 0 where
   pub count : LogCount
   pub counted : IsCountOf bytes count

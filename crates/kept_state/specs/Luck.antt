@@ -39,7 +39,7 @@ abbrev pub own_lucky : ℕ → List Lucky → List Lucky
 own_lucky s [] = []
 own_lucky s (x ∷ xs) = if x.0.site.0 == s then x ∷ own_lucky s xs else own_lucky s xs
 
--- Whether an append leaves a whole record of so many bytes, though it may be torn (this project).
+-- Whether a torn append leaves its whole record, of so many bytes (this project).
 abbrev pub leaves : Luck → ℕ → Bool
 leaves Fine size = false
 leaves (Torn bytes) size = nat_le size bytes

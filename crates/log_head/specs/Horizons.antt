@@ -40,10 +40,6 @@ is_passed h txn =
     nat_lt txn.epoch h.epoch
     || ((txn.epoch == h.epoch) && nat_le txn.number h.number && not (is_listed txn.number h.open_then))
 
--- It isn't: the commit is held, or never was and never will be.
-abbrev pub is_beyond : HorizonValue → TxnId → Bool
-is_beyond h txn = not (is_passed h txn)
-
 -- The horizon is true of records, of which these transactions have a commit among them.
 abbrev pub IsHorizonOf : HorizonValue → (TxnId → Bool) → Type 0
 IsHorizonOf h has_commit = (txn : TxnId) → has_commit txn ≡ true → is_passed h txn ≡ true

@@ -11,7 +11,7 @@ use std::marker::Model;
 pub enum CommitAnswer {
     /// It is among the log's records.
     Yes,
-    /// It isn't, and never will be.
+    /// It isn't.
     No,
     /// It isn't among those that are held, and it may be among those that were let go.
     Forgotten,

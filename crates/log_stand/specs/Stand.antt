@@ -6,7 +6,7 @@ use Rattle.kept_records.specs.Stands.{greatest}
 use Rattle.log_stand.specs.declared.stand.Stand.{Stand}
 
 -- Of the records in front of the first line that is none, or of all where there is no such line, as they are counted, these
--- are the epoch of the last restart and the length of their texts.
+-- are the greatest epoch of a restart and the length of their texts.
 abbrev pub IsStandOf : List ℕ → Stand → Type 0
 IsStandOf bytes stand =
     (count : LogCount) × (counted : IsCountOf bytes count) × (stand.epoch ≡ greatest counted.records) × (stand.length ≡ count.length)
