@@ -8,7 +8,7 @@ use Rattle.site_service.specs.Service.{HoldsText}
 use Rattle.site_service.specs.Shortening.{MayLetGo, SparesOpen, LeavesEither}
 
 -- Nothing has changed, or more of the log was let go, and so many bytes stay; of no transaction that is open, and hasn't committed, was
--- anything forgotten.
+-- anything more forgotten.
 pub record Shortens (keep : ℕ) (old new : Served) : Type 0 where
   pub let_go : MayLetGo keep old new
   pub spares : SparesOpen old new

@@ -180,7 +180,7 @@ fn keep_batches<F: ShortLog, T: LogFile, R: Source, W: Sink>(
 /// due, as `Service::shorten` does: each time a summary stays, and behind its line at least `keep`
 /// bytes and another summary. So the answers are those of `serve`, but those that hang on a commit or
 /// a key that was let go, which is forgotten. Of a transaction that is open, and hasn't committed,
-/// nothing is ever forgotten.
+/// nothing more is forgotten.
 ///
 /// The log is looked at once it holds twice `keep` and 16,384 bytes more than behind the last look,
 /// or than at the start, of which no more counts than 6 times `keep`: never before the first batch. A

@@ -11,6 +11,7 @@ use Rattle.site_service.specs.LetGo.{may_be_gone}
 use Rattle.site_service.specs.Kept.{TellsCommit}
 use Rattle.field_bounds.specs.Effects.{open_txns, is_up_to}
 use Rattle.site_step.specs.Site.{SiteValue, here}
+use Rattle.site_service.specs.Shortening.{reach_told}
 use Rattle.site_service.specs.Shorter.{txn_of, IsSpared, ListsNone, ListsOne, ListsIf, ListsOpen, ListsAllOpen}
 
 -- ---- the order of transactions
@@ -107,6 +108,11 @@ passed_up h txn e = is_up (txn_of h.epoch h.number) txn (elim (passed h txn e) [
   | inl less ↦ inl less
   | inr same ↦ inr (same.0, same.1)
 ])
+
+-- what may be gone is up to where it is told
+pub told_up : (told : Option Gone) (txn : TxnId) → may_be_gone told txn ≡ true → is_up_to (reach_told told) txn ≡ true
+told_up None txn e = absurd cc
+told_up (Some gone) txn e = passed_up gone.horizon txn e
 
 -- what is up to the last one is told as gone, where it isn't listed
 pub up_passed : (last : TxnId) (listed : List ℕ) (txn : TxnId) → is_up_to last txn ≡ true

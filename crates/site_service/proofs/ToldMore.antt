@@ -1,5 +1,5 @@
 -- What is told once more was let go.
-use Rattle.std.proofs.Common.{◌≡◌, ◌-◌, ◌+◌, ◌≤◌, ◌||◌, ℕ, Bool, true, false, List, [], ◌∷◌, ◌++◌, length, Option, refl, sym, ap, ◌∙◌, subst, arith}
+use Rattle.std.proofs.Common.{◌≡◌, ◌-◌, ◌+◌, ◌≤◌, ◌||◌, ℕ, Bool, true, false, List, [], ◌∷◌, ◌++◌, length, Option, Some, refl, sym, ap, ◌∙◌, subst, arith}
 use Rattle.std.specs.List.{flat_map}
 use Rattle.std.proofs.lemmas.List.{length-append}
 use Rattle.std.proofs.lemmas.List.Concat.{flat_map-append}
@@ -14,8 +14,8 @@ use Rattle.site_step.specs.Site.{SiteValue}
 use Rattle.site_service.specs.LetGo.{may_be_gone}
 use Rattle.site_service.specs.Kept.{TellsCommit}
 use Rattle.field_bounds.specs.Effects.{is_up_to}
-use Rattle.site_step.specs.Shortening.{ShorteningValue, IsShortening, held_of, is_commit_of, has_commit}
-use Rattle.site_service.specs.Shortening.{bytes_told, records_told, TellsMore}
+use Rattle.site_step.specs.Shortening.{ShorteningValue, IsShortening, held_of, is_commit_of, has_commit, later_txn, latest_commit}
+use Rattle.site_service.specs.Shortening.{bytes_told, records_told, reach_told, TellsMore}
 use Rattle.site_service.specs.Shorter.{txn_of, ListsNone}
 use Rattle.site_service.proofs.Spares.{up_passed}
 
@@ -51,7 +51,8 @@ module _ (site : SiteValue) (plan : ShorteningValue) (is : IsShortening site pla
 
   module _ (told : Option Gone) (last : TxnId) (listed : List ℕ) (none : ListsNone (held_of site) told last listed)
       (reaches : (txn : TxnId) → may_be_gone told txn ≡ true → is_up_to last txn ≡ true)
-      (latest : (txn : TxnId) → is_up_to plan.latest txn ≡ true → is_up_to last txn ≡ true) where
+      (latest : (txn : TxnId) → is_up_to plan.latest txn ≡ true → is_up_to last txn ≡ true)
+      (last_is : last ≡ later_txn (reach_told told) (Some (latest_commit plan.gone))) where
     its_number : (txn : TxnId) → txn.epoch ≡ last.epoch → txn_of last.epoch txn.number ≡ txn
     its_number txn own = ap (λ (e : ℕ). txn_of e txn.number) (sym own)
 
@@ -76,4 +77,5 @@ module _ (site : SiteValue) (plan : ShorteningValue) (is : IsShortening site pla
       records = is_records ∙ ap (λ (n : ℕ). records_told told + n) (count ∙ is.count);
       further = λ txn was. subst (λ (h : HorizonValue). is_passed h txn ≡ true) (sym horizon) (further txn was);
       commits = λ txn has. subst (λ (h : HorizonValue). is_passed h txn ≡ true) (sym horizon) (commits txn has);
+      reach = ap (λ (h : HorizonValue). txn_of h.epoch h.number) horizon ∙ last_is;
     }

@@ -10,8 +10,8 @@ use Rattle.kept_records.specs.Summary.{summary_record}
 use Rattle.site_step.specs.Site.{here}
 use Rattle.log_head.specs.declared.gone.Gone.{Gone}
 use Rattle.log_head.specs.Horizons.{is_passed}
-use Rattle.site_step.specs.Shortening.{has_commit, CanGo}
-use Rattle.site_service.specs.LetGo.{let_go_of, may_be_gone}
+use Rattle.site_step.specs.Shortening.{has_commit, later_txn, latest_commit, CanGo}
+use Rattle.site_service.specs.LetGo.{let_go_of, may_be_gone, reach_of}
 use Rattle.site_service.specs.Kept.{LastNotes, last_of, if_committed, TellsCommit}
 use Rattle.site_service.specs.Answers.{Served, site_of, held_in}
 use Rattle.site_service.specs.Service.{HoldsText}
@@ -25,13 +25,19 @@ abbrev pub records_told : Option Gone → ℕ
 records_told None = 0
 records_told (Some gone) = gone.records
 
+-- Up to this transaction commits may be gone, by what is told. Where nothing is told none is, up to the one in front of the first.
+abbrev pub reach_told : Option Gone → TxnId
+reach_told None = record { epoch = 1; number = 0 }
+reach_told (Some gone) = reach_of gone
+
 -- What is told once these records more were let go: they are counted; each transaction may be gone that might have been before, and each
--- whose commit is among them.
+-- whose commit is among them; and no later one than the greatest of these, or than might before.
 pub record TellsMore (old : Option Gone) (new : Gone) (more : List Record) : Type 0 where
   pub bytes : new.bytes ≡ bytes_told old + length (flat_map text more)
   pub records : new.records ≡ records_told old + length (plain more)
   pub further : (txn : TxnId) → may_be_gone old txn ≡ true → is_passed new.horizon txn ≡ true
   pub commits : (txn : TxnId) → has_commit txn more ≡ true → is_passed new.horizon txn ≡ true
+  pub reach : reach_of new ≡ later_txn (reach_told old) (Some (latest_commit more))
 
 -- Of each key stays what was noted last with it, where its commit is among these records; of another key nothing is noted any more.
 abbrev pub KeepsHeldNotes : LastNotes → LastNotes → List Record → Type 0

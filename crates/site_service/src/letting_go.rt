@@ -1,6 +1,6 @@
 //! What is told of a log once more of it was let go.
 
-ghost use Rattle.std.specs.Prelude.{◌≡◌, ◌+◌, true, Option, IfOk, IfSome};
+ghost use Rattle.std.specs.Prelude.{◌≡◌, ◌+◌, true, Option, Some, IfOk, IfSome};
 ghost use Rattle.field_bounds.specs.declared.id.TxnId.{TxnId as Txn};
 ghost use Rattle.kept_records.specs.Keeping.{IsKept};
 ghost use Rattle.field_bounds.specs.Owed.{is_up};
@@ -8,10 +8,12 @@ ghost use Rattle.site_step.specs.Site.{base_of};
 ghost use Rattle.field_bounds.specs.Effects.{is_up_to};
 ghost use Rattle.site_service.specs.Index.{IsIndexOf};
 ghost use Rattle.site_service.specs.LetGo.{may_be_gone};
-ghost use Rattle.site_service.specs.Shortening.{bytes_told, records_told};
+ghost use Rattle.site_step.specs.Shortening.{later_txn};
+ghost use Rattle.site_service.specs.Shortening.{bytes_told, records_told, reach_told};
 ghost use Rattle.site_service.specs.Shorter.{ListsIf, ListsAllOpen};
 
 use crate::kept::KeptCommits;
+use crate::telling::reach_of;
 use field_bounds::{Entry, MAX_OPEN, TxnId, is_up_to};
 use history::GhostHistory;
 use kept_records::MemoryMedium;
@@ -67,9 +69,20 @@ pub(crate) fn counted(told: &Option<Gone>, bytes: u64, records: u64) -> Option<(
     Some((bytes, records))
 }
 
+// Up to which transaction commits may be gone, by what is told.
+fn reach_told(told: &Option<Gone>) -> TxnId
+    ensures { result ≡ reach_told told.now }
+{
+    match told {
+        Some(gone) => reach_of(gone),
+        None => FIRST,
+    }
+}
+
 // The later of two transactions.
 #[tactic(auto, using(crate::proofs::Spares::up_trans, crate::proofs::Spares::up_other))]
 fn later_of(a: TxnId, b: TxnId) -> TxnId
+    ensures value { result ≡ later_txn a (Some b) }
     ensures first { (txn : Txn) → is_up_to a txn ≡ true → is_up_to result txn ≡ true }
     ensures second { (txn : Txn) → is_up_to b txn ≡ true → is_up_to result txn ≡ true }
 {
@@ -78,22 +91,13 @@ fn later_of(a: TxnId, b: TxnId) -> TxnId
 
 /// Up to which transaction the commits may go that are let go, by what is told, where those that go
 /// now go up to this one: it is of epoch 1 or a later one.
-#[tactic(auto, using(crate::proofs::Spares::passed_up))]
+#[tactic(auto, using(crate::proofs::Spares::told_up))]
 pub(crate) fn reached(told: &Option<Gone>, latest: TxnId) -> TxnId
+    ensures value { result ≡ later_txn (reach_told told.now) (Some latest) }
     ensures latest { (txn : Txn) → is_up_to latest txn ≡ true → is_up_to result txn ≡ true }
     ensures told { (txn : Txn) → may_be_gone told.now txn ≡ true → is_up_to result txn ≡ true }
 {
-    let latest = later_of(FIRST, latest);
-    match told {
-        Some(gone) => {
-            let before = TxnId {
-                epoch: gone.horizon.epoch(),
-                number: gone.horizon.number(),
-            };
-            later_of(latest, before)
-        }
-        None => latest,
-    }
+    later_of(reach_told(told), latest)
 }
 
 /// Lists an open transaction, where a horizon up to this one would tell it as gone, which it wasn't

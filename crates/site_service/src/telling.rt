@@ -18,8 +18,8 @@ pub(crate) fn commit_answer(told: &Option<Gone>, txn: TxnId, is_held: bool) -> C
     }
 }
 
-// The position up to which commits may be gone.
-fn reach_of(gone: &Gone) -> TxnId
+/// The position up to which commits may be gone.
+pub(crate) fn reach_of(gone: &Gone) -> TxnId
     ensures { result ≡ reach_of gone.now }
 {
     TxnId {

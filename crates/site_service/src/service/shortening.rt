@@ -5,7 +5,7 @@ ghost use Rattle.field_bounds.specs.Owed.{is_up};
 ghost use Rattle.log_head.specs.Horizons.{is_passed};
 ghost use Rattle.site_step.specs.Site.{base_of};
 ghost use Rattle.site_service.specs.Answers.{site_of, held_in};
-ghost use Rattle.site_step.specs.Shortening.{IsShortening, CanGo};
+ghost use Rattle.site_step.specs.Shortening.{latest_commit, IsShortening, CanGo};
 ghost use Rattle.site_service.specs.Service.{IsSettled};
 ghost use Rattle.site_service.specs.Shortening.{TellsMore, MayLetGo, SparesOpenBy, SparesOpen, LeavesEither};
 ghost use Rattle.site_service.specs.Shorter.{ListsAllOpen, IsShorter};
@@ -55,6 +55,7 @@ impl<F: ShortLog> Service<F> {
     // What is told once this is let go; None where it can't be told.
     fn told_then(&mut self, alloc: Global, plan: &Shortening) -> Result<Option<Gone>, AllocError>
         requires plan { IsShortening (site_of self.old.served) plan.now }
+        requires latest { plan.now.latest ≡ latest_commit plan.now.gone }
         ensures same { self.new ≡ self.old }
         ensures tells { IfOk result (λ told. IfSome told (λ gone. TellsMore
             self.old.served.let_go.told gone plan.now.gone)) }
@@ -82,6 +83,7 @@ impl<F: ShortLog> Service<F> {
     // The log that takes the place of this one once this is let go; None where its head can't be told.
     fn shorter(&mut self, alloc: Global, plan: &Shortening) -> Result<Option<Shorter>, AllocError>
         requires plan { IsShortening (site_of self.old.served) plan.now }
+        requires latest { plan.now.latest ≡ latest_commit plan.now.gone }
         ensures same { self.new ≡ self.old }
         ensures is { IfOk result (λ told. IfSome told (IsShorter self.old.served plan.now)) }
     {
@@ -145,8 +147,8 @@ impl<F: ShortLog> Service<F> {
     /// records, also where `keep` is 0. A log of what stays takes the place of the log: the
     /// notes of the keys whose commits are held, and the records that are held. What was answered, and
     /// what waits, stays as it is, and so does what the site stands on. A commit that is let go is
-    /// forgotten from then on, and so is its key; of a transaction that is open, and hasn't
-    /// committed, nothing is forgotten. All has to be settled, as right behind a release.
+    /// forgotten from then on, and so is its key, and no later one; of a transaction that is open, and
+    /// hasn't committed, nothing more is forgotten. All has to be settled, as right behind a release.
     ///
     /// Where the new log can't be made, or memory is wanting, all is as it was. `Device`: it isn't
     /// known which of the two logs is there, each whole, and nothing is let out any more. Costs twice
