@@ -26,10 +26,10 @@ pub record AsksNothing (schema : SchemaValue) (line : List ℕ) : Type 0 where
   pub question : (txn : TxnId) → IdFits txn → line ≢ kept_text txn
   pub key_question : (key : List ℕ) (since : Option TxnId) → IsKey key → SinceFits since → line ≢ with_since (kept_key_text key) since
 
--- The line is the text of a command of this site, with or without a key.
+-- The line is the text of a command of this site, with or without a key, whose numbers fit.
 abbrev pub IsOrder : SchemaValue → SiteNo → List ℕ → Type 0
 IsOrder schema site line =
-    ((command : Command) × (line ≡ command_text schema site command))
+    ((command : Command) × CommandFits command × (line ≡ command_text schema site command))
     ⊎ ((txn : TxnId) × (key : List ℕ) × (since : Option TxnId) × AsksCommit schema site line txn key since)
 
 -- Why a line asks nothing of a site: it has more than 256 bytes; or it has no more, and is the text of a command of another site of
@@ -37,7 +37,7 @@ IsOrder schema site line =
 abbrev pub IsBad : SchemaValue → SiteNo → List ℕ → BadLine → Type 0
 IsBad schema number line TooLong = max_line < length line
 IsBad schema number line OtherSite = (length line ≤ max_line)
-    × ((site : SiteNo) × (site.0 < schema.sites) × (site ≢ number) × IsOrder schema site line)
+    × ((site : SiteNo) × (site.0 < schema.sites) × SiteFits site × (site ≢ number) × IsOrder schema site line)
 IsBad schema number line UnknownWord = AsksNothing schema line × (fault_in schema (words line) ≡ UnknownWord)
 IsBad schema number line NoField = AsksNothing schema line × (fault_in schema (words line) ≡ NoField)
 IsBad schema number line NoCommand = AsksNothing schema line × (fault_in schema (words line) ≡ NoCommand)

@@ -179,6 +179,7 @@ fn commit_of(command: Command) -> Option<TxnId>
 
 // The site and the transaction of a commit that a text spells.
 fn read_commit(schema: &Schema, text: &[u8]) -> Option<(SiteNo, TxnId)>
+    ensures site { IfSome result (λ asked. SiteFits asked.0) }
     ensures some { IfSome result (λ asked. IdFits asked.1
         × (text.now ≡ command_text schema.now asked.0 (CommandType.Commit asked.1))) }
     ensures only { (site : Site) (txn : Txn) → SiteFits site → IdFits txn
@@ -205,6 +206,7 @@ fn is_behind_since(since: Option<TxnId>, txn: TxnId) -> bool
 
 // The site of a commit with a key that a line spells, and that commit.
 fn read_with_key<'a>(schema: &Schema, line: &'a [u8]) -> Option<(SiteNo, KeyedCommit<'a>)>
+    ensures site { IfSome result (λ asked. SiteFits asked.0) }
     ensures some { IfSome result (λ asked. SpellsCommit schema.now asked.0 line.now asked.1) }
     ensures only { (site : Site) (txn : Txn) (key : List ℕ) (since : Option Txn) → SiteFits site
         → AsksCommit schema.now site line.now txn key since

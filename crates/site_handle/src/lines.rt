@@ -1,9 +1,9 @@
 //! What the bytes that a host gives are.
 
-ghost use Rattle.std.specs.Prelude.{◌≤◌, ◌<◌, length, take, drop, IsTrue, IfOk, IfErr};
+ghost use Rattle.std.specs.Prelude.{◌≤◌, ◌<◌, length, take, drop, IsTrue, IsFalse, IfOk, IfErr};
 ghost use Rattle.request_lines.specs.Requests.{Asks};
 ghost use Rattle.site_service.specs.Opening.{AreLines};
-ghost use Rattle.site_handle.specs.Lines.{IsNoLine, IsUnasked};
+ghost use Rattle.site_handle.specs.Lines.{IsNoLine, IsLine, IsUnasked};
 
 use crate::fault::CallFault;
 use entry_text::{MAX_LINE, read_command};
@@ -24,7 +24,8 @@ pub(crate) fn whole_lines(bytes: &[u8]) -> usize
 
 // Whether the bytes are no line: they aren't UTF-8, have a line feed, or are too many.
 fn is_no_line(bytes: &[u8]) -> bool
-    ensures no_line { IsTrue result → IsNoLine bytes.now }
+    ensures yes { IsTrue result → IsNoLine bytes.now }
+    ensures no { IsFalse result → IsLine bytes.now }
 {
     if bytes.len() > MAX_LINE {
         return true;
