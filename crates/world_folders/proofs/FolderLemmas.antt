@@ -1,5 +1,5 @@
 -- Folders of sites, one after another.
-use Rattle.std.proofs.Common.{◌≡◌, ◌≢◌, ℕ, ◌<◌, ◌+◌, List, [], ◌∷◌, ◌++◌, length, get_or, Bool, true, false, All, String, string_bytes, refl, sym, subst, ◌∙◌, inl, inr, arith, length-append}
+use Rattle.std.proofs.Common.{◌≡◌, ◌≢◌, ℕ, ◌<◌, ◌≤◌, ◌+◌, List, [], ◌∷◌, ◌++◌, length, get_or, Bool, true, false, All, String, string_bytes, refl, sym, subst, ◌∙◌, inl, inr, arith, length-append}
 use Rattle.std.specs.Global.{Global}
 use Rattle.std.proofs.lemmas.Bool.{cases_lt}
 use Rattle.std.proofs.lemmas.List.{get_or_default, get_or_append_left}
@@ -8,7 +8,7 @@ use Rattle.field_bounds.specs.declared.id.SiteNo.{SiteNo}
 use Rattle.folder_logs.specs.Beside.{GoBeside}
 use Rattle.world_folders.specs.declared.worlds.SiteFolder.{SiteFolder}
 use Rattle.world_folders.specs.Folders.{IsSiteFolder, GoesWith}
-use Rattle.world_folders.specs.Lost.{TellsLost, IsNotAmong}
+use Rattle.world_folders.specs.Lost.{TellsLost, IsNotAmong, RiseFrom}
 use Rattle.world_folders.proofs.Pushed.{push_each}
 
 -- each folder is that of its name
@@ -68,3 +68,14 @@ others_more stands folders lost n here below s less among =
       | inl before ↦ below s before among
       | inr least ↦ subst (λ (m : ℕ). TellsLost stands folders m false) (let same : n ≡ s = omega (arith, less, least) in same) here
     ]
+
+-- the order of the sites, where the end is one later, and where that site is added
+pub rise_on : (from end : ℕ) (sites : List SiteNo) → RiseFrom from end sites → RiseFrom from (end + 1) sites
+rise_on from end [] rise = rise
+rise_on from end (site ∷ sites) rise = (rise.0, omega (arith, rise.1), rise_on (site.0 + 1) end sites rise.2)
+
+pub rise_more : (from end : ℕ) (sites : List SiteNo) (last : SiteNo) → last.0 ≡ end → from ≤ end → RiseFrom from end sites
+    → RiseFrom from (end + 1) (sites ++ last ∷ [])
+rise_more from end [] last is least rise = (omega (arith, is, least), omega (arith, is), tt)
+rise_more from end (site ∷ sites) last is least rise =
+    (rise.0, omega (arith, rise.1), rise_more (site.0 + 1) end sites last is (omega (arith, rise.1)) rise.2)

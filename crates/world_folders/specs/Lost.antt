@@ -1,5 +1,5 @@
 -- Which logs of a world are lost, and what those that are there come to (this project).
-use Rattle.std.specs.Prelude.{◌≡◌, ◌≢◌, ◌<◌, ◌⊎◌, ℕ, Bool, true, false, List, length, Option, Some, None, Result, Ok, Err, string_bytes, slice_index_or, All}
+use Rattle.std.specs.Prelude.{◌≡◌, ◌≢◌, ◌<◌, ◌≤◌, ◌+◌, ◌⊎◌, ℕ, Bool, true, false, List, [], ◌∷◌, length, Option, Some, None, Result, Ok, Err, string_bytes, slice_index_or, All}
 use Rattle.field_bounds.specs.Schema.{SchemaValue}
 use Rattle.field_bounds.specs.declared.id.SiteNo.{SiteNo}
 use Rattle.kept_records.specs.declared.record.Record.{Record}
@@ -27,8 +27,14 @@ TellsLost stands folders s false = SeesLog stands folders s true
 abbrev pub IsNotAmong : List SiteNo → ℕ → Type 0
 IsNotAmong lost s = All (λ site. site.0 ≢ s) lost
 
--- These are the sites whose logs are lost: the log of each of them is, and of no other site of the world.
+-- The numbers of the sites rise strictly, from this one on, and each is less than the end.
+abbrev pub RiseFrom : ℕ → ℕ → List SiteNo → Type 0
+RiseFrom from end [] = Unit {0}
+RiseFrom from end (site ∷ sites) = (from ≤ site.0) × (site.0 < end) × RiseFrom (site.0 + 1) end sites
+
+-- These are the sites whose logs are lost, in their order: the log of each of them is, and of no other site of the world.
 pub record AreLost (stands : List ℕ → Bool → Type 0) (folders : List SiteFolder) (schema : SchemaValue) (lost : List SiteNo) : Type 0 where
+  pub order : RiseFrom 0 schema.sites lost
   pub each : All (λ site. TellsLost stands folders site.0 true) lost
   pub others : (s : ℕ) → s < schema.sites → IsNotAmong lost s → TellsLost stands folders s false
 
