@@ -42,8 +42,8 @@ NAME = hashlib.sha256(SHOP.header().encode()).hexdigest()
 DAMAGED = "isn't as create wrote it: put it back from a copy"
 CHANGED = "the header was changed: put it back from a copy, as create wrote it"
 SITES = (
-    ("", "isn't of escrow site 1 or 2: serve it by the version that made it"),
-    (site_text(version="3"), "isn't of escrow site 1 or 2: serve it by the version that made it"),
+    ("", "isn't of escrow site 1 or 2: serve it by the version that made it, or put it back from a copy"),
+    (site_text(version="3"), "isn't of escrow site 1 or 2: serve it by the version that made it, or put it back from a copy"),
     (site_text(version="2"), DAMAGED),
     (site_text(version="2").replace("\nworld", "\nname a/b\nworld"), CHANGED),
     (site_text()[:-1], DAMAGED),

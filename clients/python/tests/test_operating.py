@@ -94,7 +94,7 @@ class VersionTest(SiteTest):
             self.assertEqual(file.read(), VERSION_1["log"] + "R 2\nC 2 1 0 -1\nR 3\n")
 
     def test_another_version(self) -> None:
-        for name, why in (("site", "isn't of escrow site 1 or 2: serve it by the version that made it"),
+        for name, why in (("site", "isn't of escrow site 1 or 2: serve it by the version that made it, or put it back from a copy"),
                           ("log", "isn't the log of this site, or is a later program's: serve it by that, or put its own newest log back"),
                           ("trace", "isn't the trace of this site: put its own newest trace back")):  # fmt: skip
             with self.subTest(name):

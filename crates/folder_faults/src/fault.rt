@@ -22,7 +22,7 @@ pub enum Why {
     FolderThere,
     #[error("isn't there: look whether its disk is: a site's folder is made by create, once")]
     NoSite,
-    #[error("isn't of escrow site 1 or 2: serve it by the version that made it")]
+    #[error("isn't of escrow site 1 or 2: serve it by the version that made it, or put it back from a copy")]
     OtherVersion,
     #[error("isn't as create wrote it: put it back from a copy")]
     Damaged,
