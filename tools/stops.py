@@ -34,9 +34,10 @@ CASES = {
     "c": Case("a command with neither (`share`)", "share",
               r"(?<!proofs\.)(?<!mod )\bShares?\b|\"share\"|\d share |\" ?share |SITE share|\bshare (?:stock|#)",
               r"\b(?:Shares?|SHARE|ESCROW_SHARES?)\b|[\"'] ?share[\"' ]|\d share [a-z]|\} share |SITE share"),
-    "a": Case("an answer (`Shares`)", "share", r"\bShares\b|-> share ", r"\b(?:ESCROW_SHARES|Shares)\b|-> share |[\"']share[\"']"),
+    "a": Case("an answer (`Shares`)", "share", r"\bShares\b|-> share ", r"\b(?:ESCROW_SHARES|Shares)\b|-> share |[\"']share(?: N N)?[\"']"),
     "f": Case("a refusal (`NothingGiven`)", "nothing", r"\bNothingGiven\b|nothing given", r"(?i)nothing_?given|nothing given"),
-    "l": Case("a limit (64 open)", "open", r"\b(?:max_open|MAX_OPEN)\b", r"\b6[34]\b.{0,30}\b(?:open|places)\b|\bopen\b.{0,20}\b6[34]\b"),
+    "l": Case("a limit (64 open)", "open", r"\b(?:max_open|MAX_OPEN)\b",
+              r"\b6[34]\b.{0,30}\b(?:open|places)\b|\bopen(?:_then)?\b.{0,20}\b6[34]\b|places for 63|(?i:places)\(.*\b63\)"),
     "k": Case("a kind of record (`Gift`)", "g", r"\bGift\b", r"[\"']G[ \"']"),
 }
 COMMENT = {".antt": re.compile(r"--.*"), ".rt": re.compile(r"//.*")}
