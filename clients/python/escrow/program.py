@@ -42,7 +42,8 @@ def run(
     isn't done in so many seconds: it is ended then."""
     command = [os.fspath(program) if program else find_program(), *words]
     try:
-        told = subprocess.run(command, input=given, capture_output=True, text=True, check=False, timeout=seconds)
+        told = subprocess.run(command, input=given, capture_output=True, text=True, check=False, timeout=seconds,
+                              restore_signals=False)  # fmt: skip
     except subprocess.TimeoutExpired as fault:
         raise Busy(f"{command[0]} {words[0]}: isn't done in time") from fault
     except OSError as fault:

@@ -76,6 +76,17 @@ def length_before_start(path: str, epoch: int) -> Optional[int]:
         return place.length + len(rest) - _bytes_of_notes(rest)
 
 
+def lacks_commit(path: str, epoch: int, number: int) -> bool:
+    """Whether a log that never lets go of anything has no commit of the transaction `EPOCH.NUMBER`. False where it may let go, and
+    where it can't be looked at."""
+    try:
+        with open(path, "rb") as log:
+            is_whole = _head(log, path).version < 3
+            return is_whole and find_last(log, b"\nC %d %d " % (epoch, number), os.fstat(log.fileno()).st_size) < 0
+    except (OSError, Down):
+        return False
+
+
 def served_between(folder: str, ours: Mark, now: Mark) -> bool:
     """Whether somebody else may have served the site between a run of ours and the one that has just begun.
 

@@ -2,6 +2,7 @@
 
 from __future__ import annotations
 
+import errno
 import hashlib
 import json
 import os
@@ -56,7 +57,7 @@ class Identity(NamedTuple):
 
 
 def identity(folder: str) -> Identity:
-    """Reads the file `site` of a folder. Raises `Down` where there is none, or it isn't as `create` wrote it."""
+    """Reads the file `site` of a folder. Raises `Down` where there is none, it can't be read, or isn't as `create` wrote it."""
     path = os.path.join(folder, "site")
     try:
         with open(path, encoding="utf-8") as file:
@@ -64,10 +65,18 @@ def identity(folder: str) -> Identity:
         words = VERSIONS[first]
         told = {word: line.removeprefix(word) for word, line in zip(words, lines)}
         return Identity(int(told["number "]), told["world "], Schema.parse(lines[len(words)]))
+    except FileNotFoundError as fault:
+        raise Down(f"{path}: isn't there: look whether its disk is: a site's folder is made by create, once", 3) from fault
     except OSError as fault:
-        raise Down(f"{path}: {fault.strerror}: a site's folder is made by create", 3) from fault
+        raise unreadable(path, fault) from fault
     except (ValueError, KeyError, IndexError, TypeError) as fault:
         raise Down(f"{path}: isn't as create wrote it: put it back from a copy", 3) from fault
+
+
+def unreadable(path: str, fault: OSError) -> Down:
+    """Why a file of a site's folder can't be read, though it may be there, and what to do."""
+    remedy = "let this user read it" if fault.errno in (errno.EACCES, errno.EPERM) else "look whether its disk is"
+    return Down(f"{path}: {fault.strerror}: {remedy}", 5)
 
 
 def differs(folder: str, schema: Union[Schema, Path], number: int, name: str) -> str:

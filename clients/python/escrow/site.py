@@ -24,10 +24,11 @@ from .errors import Down, Interrupted
 from .gauges import Gauges
 from .holding import Holding
 from .keys import CallerKey, KeptKey
-from .numbers import SHORT, amount_of, keep_of, line_id, site_of
+from .numbers import SHORT, amount_of, keep_of, line_id, read_id, site_of
 from .pipeline import Counts, Pipeline, Watch
 from .program import create, find_program, make_or_find
-from .records import Records
+from .records import Records, lacks_commit
+from .refused import joined, kept_mark
 from .schema import Path, Schema, identity
 from .steps import GivenKey, Steps, TightenedKey, share
 from .supervisor import Backoff, Orders, Supervisor
@@ -88,9 +89,10 @@ class Site:
         program lets go of the front of its log while it serves, but for at least so many bytes, up to 2^40: then what is asked
         about what is gone is `Forgotten`, and keys want their `since`. Without it a log only grows. `archive` keeps the log in
         the folder as it was each time, for `escrow_site verify`: from the first time on and always.
-        `not_before` refuses a log that is older, and so does `last_id`: the newest id that the caller's own books have
-        as committed. The log is asked for it once, before any other call, and a site whose log hasn't got it is closed; one
-        that was shortened beyond it isn't older, and goes on.
+        `not_before` refuses a log that is older, as does the file `not_before` that a carrier may have left in the folder, and
+        `last_id`: the newest id that the caller's own books have as committed. A log that never lets go of anything is looked
+        through for it before the start. Any is asked for it once, before any other call, and a site whose log hasn't got it is
+        closed; one that was shortened beyond it isn't older, and goes on.
         A later start, behind a stop, isn't asked again: it is told the mark of the start before as `not_before`.
         `metrics` counts what happens. `wait` is how many seconds this waits at most, `patience` how many a call waits
         for a site that doesn't stand, and `backoff` how many pass before a new start. `timeout` is that of calls which
@@ -120,18 +122,19 @@ class Site:
         self._hooks, self._clock = Errands(f"escrow hooks {self.number}"), Errands(f"escrow time limits {self.number}")
         self._is_fork = False
         self._folder_lock = lock_folder(self.folder)
+        wanted = self._wanted(not_before, last_id)
         names = frozenset(field.name for field in self.schema.fields)
         holding, issued = Holding(held, self._clock.after, self.folder), weakly(self._issued)
         self.pipeline = Pipeline(self.number, self.world, names, issued, metrics, holding, most_waiting)
         self._steps = Steps(self.pipeline, self.folder, self._program)
         orders = Orders(self.folder, (self._program, "serve", self.folder, *options), backoff, patience)
-        self._supervisor = Supervisor(orders, self.pipeline, weakly(self._started), metrics, not_before)
+        self._supervisor = Supervisor(orders, self.pipeline, weakly(self._started), metrics, wanted)
         keep_watch(self, closer)
         end = time.monotonic() + wait
         try:
             self._wait(wait)
             if last_id is not None and not is_kept(self.pipeline, last_id, end - time.monotonic()):
-                raise Down(f"{self.folder}/log: transaction {last_id} isn't in it: {OLDER}", 3)
+                raise self._older(last_id)
         except Down:
             self.close(max(0.0, end - time.monotonic()))
             raise
@@ -181,6 +184,21 @@ class Site:
         from .connected import ConnectedSite
 
         return ConnectedSite(path, **options)
+
+    def _wanted(self, not_before: Optional[Mark], last_id: Optional[str]) -> Optional[Mark]:
+        """How far the log has to have come. Raises `Down`, and lets go of the folder, where it is known before the start that the
+        log is an older one."""
+        try:
+            wanted = joined(not_before, kept_mark(self.folder))
+            if last_id is not None and lacks_commit(self._records.path, *read_id(last_id).numbers()):
+                raise self._older(last_id)
+            return wanted
+        except Down:
+            os.close(self._folder_lock)
+            raise
+
+    def _older(self, last_id: str) -> Down:
+        return Down(f"{self.folder}/log: transaction {last_id} isn't in it: {OLDER}", 3)
 
     def _wait(self, seconds: float) -> None:
         stands, why = self._supervisor.wait(seconds), self.pipeline.dead

@@ -19,6 +19,7 @@ from .device import device_fault, remedy
 from .errors import Down, Faulty
 from .pipeline import Pipeline, Watch
 from .records import served_between
+from .refused import advice
 from .room import has_room
 from .values import Mark
 
@@ -143,7 +144,7 @@ class Supervisor:
                 self._wait_for_room()
                 continue
             if self.last_status in HOPELESS:
-                return hopeless(self.last_status, self.last_error)
+                return hopeless(self._orders.folder, self.last_status, self.last_error)
             self._lose_patience()
             self._closing.wait(pause)
             pause = min(2 * pause, self._orders.backoff.most)
@@ -201,7 +202,8 @@ class Supervisor:
         if self.mark is not None:
             words += ["--not-before", str(self.mark.epoch), str(self.mark.length)]
         pipe = subprocess.PIPE
-        return subprocess.Popen(words, stdin=pipe, stdout=pipe, stderr=pipe, bufsize=0, start_new_session=True)
+        return subprocess.Popen(words, stdin=pipe, stdout=pipe, stderr=pipe, bufsize=0, start_new_session=True,
+                                restore_signals=False)  # fmt: skip
 
     def _stands(self, to: IO[bytes], back: IO[bytes]) -> bool:
         """Reads the two lines that a site begins with: whether they came whole. Then it takes calls. Raises `Down`
@@ -263,9 +265,9 @@ class Supervisor:
                 self._pipeline.finish()
 
 
-def hopeless(status: Optional[int], told: str) -> Down:
+def hopeless(folder: str, status: Optional[int], told: str) -> Down:
     """Why it isn't started again behind a status of `HOPELESS`, and what to do."""
-    return Down(told + remedy(told) if status == DISK else told, status)
+    return Down(told + (remedy(told) if status == DISK else advice(folder, told)), status)
 
 
 class Ready(NamedTuple):

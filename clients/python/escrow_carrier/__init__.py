@@ -9,6 +9,7 @@
 A carrier can't break a bound: whatever a medium loses, repeats, delays or exchanges, a site accepts each right
 once. Who can write to the topics of another site can: docs/OPERATING.md tells what the broker has to refuse. `Mqtt`
 needs paho-mqtt."""
+from importlib.util import find_spec
 from typing import TYPE_CHECKING, Any
 
 from escrow import __version__
@@ -21,10 +22,12 @@ from .messages import Ask, Garbage, Marked, Message, Shares, Topics
 from .policy import Gift, Policy
 
 if TYPE_CHECKING:
-    from .mqtt import Mqtt
+    from .mqtt import Mqtt as Mqtt
 
 __all__ = ["Ask", "AsyncCarrier", "Carrier", "Counts", "Folder", "Garbage", "Gift", "Marked", "Medium", "Message",
-           "Mqtt", "Policy", "Shares", "Topics", "__version__", "last_mark"]
+           "Policy", "Shares", "Topics", "__version__", "last_mark"]
+if find_spec("paho") is not None:
+    __all__ += ["Mqtt"]
 
 
 def __getattr__(name: str) -> Any:

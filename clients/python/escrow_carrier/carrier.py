@@ -11,10 +11,11 @@ from dataclasses import dataclass
 from enum import Enum, auto
 from typing import Callable, Optional, Sequence, Union
 
-from escrow import AsyncSite, Forged, Kind, Mark, NothingGiven, Refused, Short, Site, Statement
+from escrow import AsyncSite, Down, Forged, Kind, Mark, NothingGiven, Refused, Short, Site, Statement
 from escrow.asking import end_of
 from escrow.desk import NEVER
 from escrow.metrics import Metrics
+from escrow.refused import keep_mark
 from escrow.schema import identity
 
 from .counts import Counts, count_in
@@ -85,7 +86,7 @@ class Carrier:
                  metrics: Optional[Metrics] = None, wait: float = 2.0) -> None:
         self.site, self.medium, self.policy, self.refresh = site, medium, policy, refresh
         self.counts = Counts()
-        self.last_fault: Optional[Exception] = None
+        self._fault: Optional[Exception] = None
         self.found_mark: Optional[Mark] = None
         """The mark that the medium had of this site, by an earlier start; None where none came yet."""
         if site.pid is None and not os.path.isdir(site.folder):
@@ -142,6 +143,13 @@ class Carrier:
             log.log(logging.INFO if is_new else logging.WARNING,
                     "%s: no mark of this site came from its medium: an older copy of its log isn't seen, unless one "
                     "comes later", self.site.folder)
+
+    @property
+    def last_fault(self) -> Optional[Exception]:
+        """Why the site was closed as an older copy; else why no messages go out, a `ConnectionError`, as long as that is so; else
+        the last fault of a command that the site didn't answer, or None."""
+        told = "" if self._newer is not None else getattr(self.medium, "last_fault", "")
+        return ConnectionError(told) if told else self._fault
 
     @property
     def _patience(self) -> float:
@@ -298,7 +306,7 @@ class Carrier:
             self.found_mark = mark
         if self._newer is None and self._marks.is_newer(mark):
             self._newer = mark
-            self.last_fault = fault = self._marks.refusal(self.site.folder, mark)
+            self._fault = fault = self._marks.refusal(self.site.folder, mark)
             log.error("%s", fault)
             self.site.pipeline.die(fault)
             self._events.put(Signal.REFUSED)
@@ -316,14 +324,14 @@ class Carrier:
         if self._newer is not None:
             self._end_site(self._newer)
         elif self.site.up:
-            self._try(self._renew_mark)
+            self._try(self._tell_last)
 
     def _try(self, act: Callable[[], None]) -> None:
         try:
             act()
         except Exception as fault:                      # mostly that the site is down: it is told or asked again later
             self.counts.faults += 1
-            self.last_fault = fault
+            self._fault = fault
 
     def _next(self, due: float) -> Optional[Event]:
         """What comes next; none where the next look is due before."""
@@ -452,6 +460,11 @@ class Carrier:
                 except NothingGiven:
                     pass
 
+    def _tell_last(self) -> None:
+        """What was told last, so that a medium which was away is seen to be back, and then the mark."""
+        self._tell_shares([])
+        self._renew_mark()
+
     def _renew_mark(self) -> None:
         self._tell_mark(self.site.newest_mark())
 
@@ -465,10 +478,19 @@ class Carrier:
                 self._publish(Marked(self.site.number, self._marks.tell(mark)), True)
 
     def _end_site(self, newer: Mark) -> None:
-        """Ends a site whose log is an older copy. The medium keeps the mark by which it is seen."""
-        self._publish(Marked(self.site.number, self._marks.joined(newer)), True)
+        """Ends a site whose log is an older copy. Its folder and the medium keep the mark by which it is seen."""
+        mark = self._marks.joined(newer)
+        self._keep_in_folder(mark)
+        self._publish(Marked(self.site.number, mark), True)
         self.site.pipeline.die(self._marks.refusal(self.site.folder, newer))
         self.site.close()
+
+    def _keep_in_folder(self, mark: Mark) -> None:
+        try:
+            keep_mark(self.site.folder, mark)
+        except (OSError, Down) as fault:
+            log.error("%s: the mark that refuses this older log isn't kept in its folder: %s: put the newest log back before the "
+                      "next start: each one makes this log longer, until it passes that mark", self.site.folder, fault)
 
     def _look(self) -> None:
         """Tells all anew, and evens out what is quiet. The site isn't asked where it has answered nothing since the

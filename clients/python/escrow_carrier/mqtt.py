@@ -8,7 +8,12 @@ import socket
 import ssl
 from typing import Any, Callable, Optional, Sequence
 
-import paho.mqtt.client as paho  # type: ignore
+try:
+    import paho.mqtt.client as paho  # type: ignore
+except ModuleNotFoundError as missing:
+    raise ModuleNotFoundError("Mqtt needs paho-mqtt, which this Python hasn't got: install Debian's python3-paho-mqtt, for "
+                              "/usr/bin/python3, as tools/install_clients --shop does, or `pip install paho-mqtt`",
+                              name=missing.name) from missing
 
 from .medium import Hear
 

@@ -41,7 +41,7 @@ class Served:
         later = [] if mark is None else ["--not-before", str(mark.epoch), str(mark.length)]
         pipe = subprocess.PIPE
         self._process = subprocess.Popen([*command, *later], stdin=pipe, stdout=pipe, stderr=pipe, bufsize=0,
-                                         start_new_session=True)  # fmt: skip
+                                         start_new_session=True, restore_signals=False)  # fmt: skip
         assert self._process.stdin and self._process.stdout and self._process.stderr
         self._complaints = Complaints(self._process.stderr, log)
         self.to, self.back = self._process.stdin.fileno(), self._process.stdout.fileno()
