@@ -3,19 +3,41 @@ program writes anything. Else each refused start would append its restart to the
 
 from __future__ import annotations
 
+import hashlib
 import os
-import re
-from typing import Optional
+from typing import BinaryIO, NamedTuple, Optional
 
 from .errors import Down
 from .numbers import U64
+from .records import Records
 from .schema import unreadable
 from .values import Mark
 
 FILE = "not_before"
-"""Of a site's folder: it holds `EPOCH LENGTH`, as the option `--not-before` has them."""
-_MARK = re.compile(rb"\s*([0-9]{1,20})\s+([0-9]{1,20})\s*")
-_OLDER = re.compile(r"/log: epoch ([0-9]+), length ([0-9]+): older than --not-before")
+"""Of a site's folder: it holds `EPOCH LENGTH`, as the option `--not-before` has them, and a line for each of `Kept.copies`."""
+_OLDER = ": older than --not-before: "
+PIECE = 1 << 20
+"""Bytes of a log that are read together."""
+
+
+class Copy(NamedTuple):
+    """A log that was refused, by the size of its file and the SHA-256 of what it held."""
+
+    size: int
+    digest: str
+
+
+class Kept(NamedTuple):
+    """What the file holds: how far a log has to have come, and the older copies that had come so far by themselves, as by what
+    they sold before they were refused: the mark alone wouldn't refuse them."""
+
+    mark: Mark
+    copies: tuple[Copy, ...] = ()
+
+
+def reaches(log: Mark, mark: Mark) -> bool:
+    """Whether a log that has come so far isn't older than this mark."""
+    return log.epoch >= mark.epoch and log.length >= mark.length
 
 
 def joined(first: Optional[Mark], second: Optional[Mark]) -> Optional[Mark]:
@@ -25,30 +47,87 @@ def joined(first: Optional[Mark], second: Optional[Mark]) -> Optional[Mark]:
     return Mark(max(first.epoch, second.epoch), max(first.length, second.length))
 
 
-def kept_mark(folder: str) -> Optional[Mark]:
+def wanted_mark(folder: str) -> Optional[Mark]:
     """How far the log in this folder has to have come; None where none was ever refused there. Raises `Down` where the file of it
-    can't be read, or has no mark in it."""
-    path = os.path.join(folder, FILE)
-    try:
-        with open(path, "rb") as file:
-            found = _MARK.fullmatch(file.read())
-    except FileNotFoundError:
+    can't be read, or has no mark in it, and where the log is one of its copies."""
+    kept = _read(folder)
+    if kept is None:
         return None
-    except OSError as fault:
-        raise unreadable(path, fault) from fault
-    mark = None if found is None else Mark(int(found[1]), int(found[2]))
-    if mark is None or max(mark) > U64:
-        raise Down(f"{path}: isn't two numbers, the epoch and the length of the mark that refused an older log here: write those of the "
-                   "newest log that was served, as escrow_site show tells them", 3)
-    return mark
+    path = os.path.join(folder, "log")
+    if any(_is_copy(path, copy) for copy in kept.copies):
+        raise Down(f"{path}: older than its mark, epoch {kept.mark.epoch}, length {kept.mark.length}, though it was served beyond: put "
+                   f"the newest log back{_told(folder, kept.mark)}", 3)
+    return kept.mark
 
 
 def keep_mark(folder: str, mark: Mark) -> None:
     """From now on a log is refused here that hasn't come so far, or as far as was wanted before. Raises `OSError` where that can't
-    be written, and `Down` as `kept_mark`."""
-    path, wanted = os.path.join(folder, FILE), joined(mark, kept_mark(folder))
-    with open(f"{path}.new", "wb") as file:
-        file.write(b"%d %d\n" % (wanted or mark))
+    be written, and `Down` where what is there has no mark in it."""
+    kept = _read(folder) or Kept(mark)
+    _write(folder, Kept(joined(mark, kept.mark) or mark, kept.copies))
+
+
+def keep_copy(folder: str, epoch: int) -> None:
+    """From now on the log that was refused here and has ended in this epoch is refused itself, where it has come as far as the
+    mark. Raises as `keep_mark`."""
+    path, kept = os.path.join(folder, "log"), _read(folder)
+    if kept is None or not reaches(Mark(epoch, Records(path).length()), kept.mark):
+        return
+    with open(path, "rb") as log:
+        size = os.fstat(log.fileno()).st_size
+        copy = Copy(size, _digest(log, size))
+    if copy not in kept.copies:
+        _write(folder, Kept(kept.mark, (*kept.copies, copy)))
+
+
+def advice(folder: str, told: str) -> str:
+    """What there is to add to what the program told, where it refused a log by the mark of its folder; else nothing."""
+    front, older, _ = told.partition(_OLDER)
+    words = front.replace(",", "").split(" ")
+    try:
+        kept = _read(folder) if older else None
+        log = Mark(int(words[-3]), int(words[-1]))
+    except (Down, ValueError, IndexError):
+        return ""
+    return "" if kept is None or reaches(log, kept.mark) else _told(folder, kept.mark)
+
+
+def _told(folder: str, mark: Mark) -> str:
+    return (f": {os.path.join(folder, FILE)} holds the mark that refused it, epoch {mark.epoch}, length {mark.length}: the file may stay, "
+            "a log that has come so far passes it; only where nothing was sold or given since, and the medium's mark was removed too, "
+            "remove the file")
+
+
+def _read(folder: str) -> Optional[Kept]:
+    path = os.path.join(folder, FILE)
+    try:
+        with open(path, encoding="ascii", errors="replace") as file:
+            first, *lines = file.read().rstrip().split("\n")
+        epoch, length = first.split()
+        copies = tuple(Copy(_number(size), digest) for size, digest in (line.removeprefix("copy ").split() for line in lines))
+        return Kept(Mark(_number(epoch), _number(length)), copies)
+    except FileNotFoundError:
+        return None
+    except OSError as fault:
+        raise unreadable(path, fault) from fault
+    except ValueError as fault:
+        raise Down(f"{path}: isn't two numbers, the epoch and the length of the mark that refused an older log here: write those that "
+                   "escrow_site show tells of the newest log", 3) from fault
+
+
+def _number(word: str) -> int:
+    number = int(word)
+    if not 0 <= number <= U64:
+        raise ValueError(word)
+    return number
+
+
+def _write(folder: str, kept: Kept) -> None:
+    """Puts the file in place as a whole: it stays, whatever stops."""
+    path = os.path.join(folder, FILE)
+    lines = (f"{kept.mark.epoch} {kept.mark.length}", *(f"copy {copy.size} {copy.digest}" for copy in kept.copies))
+    with open(f"{path}.new", "w", encoding="ascii") as file:
+        file.write("".join(f"{line}\n" for line in lines))
         file.flush()
         os.fsync(file.fileno())
     os.replace(file.name, path)
@@ -59,15 +138,18 @@ def keep_mark(folder: str, mark: Mark) -> None:
         os.close(held)
 
 
-def advice(folder: str, told: str) -> str:
-    """What there is to add to what the program told, where it refused a log by the mark of its folder; else nothing."""
-    found = _OLDER.search(told)
+def _is_copy(path: str, copy: Copy) -> bool:
+    """Whether the log is that one, or goes on from it. False where it can't be read: the program tells why."""
     try:
-        mark = None if found is None else kept_mark(folder)
-    except Down:
-        return ""
-    if found is None or mark is None or int(found[1]) >= mark.epoch and int(found[2]) >= mark.length:
-        return ""
-    return (f": {os.path.join(folder, FILE)} holds the mark that refused it, epoch {mark.epoch}, length {mark.length}: the file may stay, "
-            "a log that has come so far passes it; only where nothing was sold or given since, and the medium's mark was removed too, "
-            "remove the file")
+        with open(path, "rb") as log:
+            return os.fstat(log.fileno()).st_size >= copy.size and _digest(log, copy.size) == copy.digest
+    except OSError:
+        return False
+
+
+def _digest(log: BinaryIO, size: int) -> str:
+    found = hashlib.sha256()
+    while size > 0 and (piece := log.read(min(size, PIECE))):
+        found.update(piece)
+        size -= len(piece)
+    return found.hexdigest()

@@ -28,7 +28,7 @@ from .numbers import SHORT, amount_of, keep_of, line_id, read_id, site_of
 from .pipeline import Counts, Pipeline, Watch
 from .program import create, find_program, make_or_find
 from .records import Records, lacks_commit
-from .refused import joined, kept_mark
+from .refused import joined, wanted_mark
 from .schema import Path, Schema, identity
 from .steps import GivenKey, Steps, TightenedKey, share
 from .supervisor import Backoff, Orders, Supervisor
@@ -189,7 +189,7 @@ class Site:
         """How far the log has to have come. Raises `Down`, and lets go of the folder, where it is known before the start that the
         log is an older one."""
         try:
-            wanted = joined(not_before, kept_mark(self.folder))
+            wanted = joined(not_before, wanted_mark(self.folder))
             if last_id is not None and lacks_commit(self._records.path, *read_id(last_id).numbers()):
                 raise self._older(last_id)
             return wanted

@@ -3,11 +3,11 @@ else. Site 3 logs in as `site3`.
 
     python3 -m escrow_carrier shop0 shop1 shop2 > access
 
-Ends with status 2 where no folder is named, or a flag that it hasn't got, and with 3 where one isn't a site's; then it prints
-one line, on standard error, and no list. A folder whose name begins with `-` is given as `./-..`."""
+Ends with status 2 where no folder is named, or a flag that it hasn't got, with 3 where one isn't a site's, and with 5 where that
+can't be read; then it prints one line, on standard error, and no list. A folder whose name begins with `-` is given as `./-..`."""
 import sys
 
-from escrow import EscrowError
+from escrow import Down
 from escrow.schema import identity
 
 from .messages import Topics
@@ -27,9 +27,9 @@ def main(folders: list[str]) -> int:
         return 2
     try:
         entries = [(number, Topics(world, schema).access(number)) for number, world, schema in map(identity, folders)]
-    except EscrowError as fault:
+    except Down as fault:
         print(f"escrow_carrier: {fault}", file=sys.stderr)
-        return 3
+        return fault.status or 3
     for number, lines in entries:
         print("".join(f"{line}\n" for line in (f"user site{number}", *lines)))
     return 0

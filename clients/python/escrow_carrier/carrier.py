@@ -15,7 +15,7 @@ from escrow import AsyncSite, Down, Forged, Kind, Mark, NothingGiven, Refused, S
 from escrow.asking import end_of
 from escrow.desk import NEVER
 from escrow.metrics import Metrics
-from escrow.refused import keep_mark
+from escrow.refused import keep_copy, keep_mark
 from escrow.schema import identity
 
 from .counts import Counts, count_in
@@ -479,15 +479,16 @@ class Carrier:
 
     def _end_site(self, newer: Mark) -> None:
         """Ends a site whose log is an older copy. Its folder and the medium keep the mark by which it is seen."""
-        mark = self._marks.joined(newer)
-        self._keep_in_folder(mark)
+        folder, mark = self.site.folder, self._marks.joined(newer)
+        self._keep_in_folder(lambda: keep_mark(folder, mark))
         self._publish(Marked(self.site.number, mark), True)
-        self.site.pipeline.die(self._marks.refusal(self.site.folder, newer))
+        self.site.pipeline.die(self._marks.refusal(folder, newer))
         self.site.close()
+        self._keep_in_folder(lambda: keep_copy(folder, self.site.epoch))
 
-    def _keep_in_folder(self, mark: Mark) -> None:
+    def _keep_in_folder(self, keep: Callable[[], None]) -> None:
         try:
-            keep_mark(self.site.folder, mark)
+            keep()
         except (OSError, Down) as fault:
             log.error("%s: the mark that refuses this older log isn't kept in its folder: %s: put the newest log back before the "
                       "next start: each one makes this log longer, until it passes that mark", self.site.folder, fault)

@@ -9,6 +9,7 @@ from typing import Optional
 
 from escrow import Down, Mark, Site
 from escrow.records import length_before_start
+from escrow.refused import reaches
 
 
 class Marks:
@@ -23,16 +24,16 @@ class Marks:
         """What to tell, where the log has come so far: never less than before. From now on it is known as its own."""
         with self._lock:
             first, last = self._told or (mark, mark)
-            self._told = first, mark if _reaches(mark, last) else last
+            self._told = first, mark if reaches(mark, last) else last
             return self._told[1]
 
     def is_newer(self, mark: Mark) -> bool:
         """Whether this tells of a log that had come further than this one, before its first start. What this process
         told itself doesn't."""
         told = self._told
-        if told is not None and _reaches(mark, told[0]) and _reaches(told[1], mark):
+        if told is not None and reaches(mark, told[0]) and reaches(told[1], mark):
             return False
-        return not _reaches(self.start, mark)
+        return not reaches(self.start, mark)
 
     def joined(self, mark: Mark) -> Mark:
         """What refuses both logs that are less than this mark, and than what was told here."""
@@ -44,10 +45,6 @@ class Marks:
         return Down(f"{folder}/log: epoch {self.start.epoch}, length {self.start.length}: older than its mark, epoch "
                     f"{mark.epoch}, length {mark.length}: put the newest log back; if this world was "
                     "made anew with the header of an older one, empty the medium first", 3)
-
-
-def _reaches(log: Mark, mark: Mark) -> bool:
-    return log.epoch >= mark.epoch and log.length >= mark.length
 
 
 def marks_of(site: Site) -> Marks:

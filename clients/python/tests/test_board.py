@@ -323,7 +323,7 @@ class OverFolders(unittest.TestCase):
         self.assertIn(f"{self.folders[2]}/log: ", shown.stderr)
         told = self.told(self.folders[0], self.at + "/none", *other, self.at + "/copy", self.folders[2])
         self.assertEqual(told["alarms"], [
-            f"{self.at}/none/site: No such file or directory: a site's folder is made by create",
+            f"{self.at}/none/site: isn't there: look whether its disk is: a site's folder is made by create, once",
             f"{other[0]}: is of another world: it isn't counted",
             f"{self.at}/copy: is of site 0, as a folder before it: two of one site sell twice",
             shown.stderr.strip()])

@@ -100,9 +100,9 @@ class ListTest(unittest.TestCase):
 
     def test_what_is_no_site_is_one_line_and_no_list(self) -> None:
         self.write("torn", "escrow site 1\nnumber 0\n")
-        made = "a site's folder is made by create"
+        made = "isn't there: look whether its disk is: a site's folder is made by create, once"
         self.assertEqual(self.asked("shop0", "shop1"), (
-            3, "", f"escrow_carrier: shop1/site: No such file or directory: {made}\n"))
+            3, "", f"escrow_carrier: shop1/site: {made}\n"))
         self.assertEqual(self.asked("shop0", "torn"), (
             3, "", "escrow_carrier: torn/site: isn't as create wrote it: put it back from a copy\n"))
         status, out, told = self.asked()

@@ -326,7 +326,9 @@ class LastIdTest(ForgetfulTest):
     """A log that has let go of what the caller's books have last isn't an older one."""
 
     def start(self, folder: str) -> escrow.Site:
-        """With an id of an earlier start in the books."""
+        """With an id of an earlier start in the books. The log is of the version that may let go."""
+        with open(os.path.join(folder, "log"), "w", encoding="ascii") as log:
+            log.write("escrow log 3\n")
         return self.opened_site(folder, last_id=of_shop("0.1"))
 
     def test_it_is_taken(self) -> None:

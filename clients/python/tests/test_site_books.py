@@ -57,8 +57,8 @@ class LastIdTest(SiteTest):
         told = self.refused(self.copy, of_shop("1.3"))
         self.assertTrue(told.startswith(f"{self.copy}/log: transaction {of_shop('1.3')} isn't in it: "), told)
         self.assertIn("an older log: put the newest log back; where there is none", told)
-        # Nothing was asked of it but that: its start alone is in it. The folder is free, and the newest log is served.
-        self.assertEqual(records(self.copy), [["R", "1"], ["C", "1", "1", "0", "-1"], ["R", "2"]])
+        # Nothing was started. The folder is free, and the newest log is served.
+        self.assertEqual(records(self.copy), [["R", "1"], ["C", "1", "1", "0", "-1"]])
         self.served(self.copy, last_id=of_shop("1.1")).close()
         self.assertEqual(self.served(folder, last_id=of_shop("1.3")).epoch, 2)
 
@@ -85,8 +85,10 @@ class LastIdTest(SiteTest):
         self.assertEqual(self.served(folder).epoch, 1)
 
     def test_it_is_asked_again_behind_a_stop(self) -> None:
-        """The first process is killed before it has answered."""
+        """The first process is killed before it has answered. The copy has the commit in a torn batch alone."""
         folder, program, first = self.sold(2), os.path.join(self.place, "cut"), os.path.join(self.place, "first")
+        with open(os.path.join(self.copy, "log"), "ab") as log:
+            log.write(b"C 1 2 0 -1 ")
         with open(program, "w", encoding="ascii") as file:
             file.write(CUT.format(real=escrow_site(), first=first, lines=2))
         os.chmod(program, 0o755)
@@ -106,14 +108,14 @@ class LastIdTest(SiteTest):
         with open(program, "w", encoding="ascii") as file:
             file.write(MUTE.format(pid=pid))
         os.chmod(program, 0o755)
-        folder, began = self.folder(), time.monotonic()
+        folder, began = self.sold(1), time.monotonic()
         with self.assertRaises(escrow.Down) as raised:
             escrow.Site(folder, program=program, last_id=of_shop("1.1"), wait=0.5)
         self.assertLess(time.monotonic() - began, 5.0)
         self.assertIn("wasn't answered in time", str(raised.exception))
         with open(pid, encoding="ascii") as file:
             self.assertTrue(is_ended(int(file.read())))
-        self.assertEqual(self.served(folder).epoch, 1)
+        self.assertEqual(self.served(folder).epoch, 2)
 
 
 if __name__ == "__main__":

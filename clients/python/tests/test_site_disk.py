@@ -248,6 +248,46 @@ class RoomTest(DiskTest):
         self.assertEqual((site.counts.starts, site.counts.stops), (1, 1))
 
 
+class LimitTest(DoorTest):
+    """A limit of file sizes, RLIMIT_FSIZE: the program isn't killed by it, and tells it."""
+
+    TOLD = DeviceFault("log", "write", "File too large", errno.EFBIG)
+
+    def limited(self, blocks: int = 2) -> str:
+        """A program whose files have at most so many blocks of 512 bytes."""
+        program = os.path.join(self.place, "limited")
+        with open(program, "w", encoding="ascii") as file:
+            file.write(f"#!/bin/sh\nulimit -f {blocks}\nexec {escrow_site()!r} \"$@\"\n")
+        os.chmod(program, 0o755)
+        return program
+
+    def sell_until_fault(self, site: escrow.Site) -> None:
+        with self.assertRaises(escrow.EscrowError):
+            for _ in range(2000):
+                site.change("stock", -1)
+
+    def test_a_site_tells_it(self) -> None:
+        site = escrow.Site(self.folder(LARGE), program=self.limited())
+        self.addCleanup(site.close)
+        self.sell_until_fault(site)
+        with self.assertRaises(escrow.Down) as down:
+            site.read("stock")
+        self.assertEqual((down.exception.status, down.exception.device), (5, self.TOLD))
+        self.assertIn("device fault: write: File too large", str(down.exception))
+
+    def test_a_door_tells_it(self) -> None:
+        door = self.door(LARGE, program=self.limited())
+        self.sell_until_fault(self.connected(door, patience=0.2))
+        self.assertEqual(door.process.wait(20), 5)
+        self.assertIn("device fault: write: File too large", door.text())
+
+    def test_create_tells_it(self) -> None:
+        with self.assertRaises(escrow.ProgramError) as raised:
+            escrow.create(os.path.join(self.place, "new"), SHOP, 0, program=self.limited(0), name="none")
+        self.assertEqual(raised.exception.status, 5)
+        self.assertIn("File too large", str(raised.exception))
+
+
 class BarredTest(DoorTest):
     """A file of the folder that this user may not read, and what stands where `log.new` is to be: nothing is wrong with the disk."""
 

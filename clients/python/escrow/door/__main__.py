@@ -15,7 +15,7 @@ from typing import Optional
 from ..errors import Down, EscrowError, Faulty
 from ..numbers import keep_of
 from ..program import find_program
-from ..refused import joined, kept_mark
+from ..refused import joined, wanted_mark
 from ..room import has_room
 from ..schema import Identity, identity
 from ..site import lock_folder
@@ -77,7 +77,7 @@ class Door:
         options += [] if told.keep is None else ["--keep", str(told.keep)]
         options += ["--archive"] if told.archive else []
         self._command = [_program(told.program), "serve", self.folder, *options]
-        self._mark = joined(Mark(*told.not_before) if told.not_before else None, kept_mark(self.folder))
+        self._mark = joined(Mark(*told.not_before) if told.not_before else None, wanted_mark(self.folder))
         self._limits = Limits(told.slow)
         self._listener, self._place = passed(), None
         if self._listener is None:
