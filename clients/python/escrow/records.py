@@ -77,8 +77,8 @@ def length_before_start(path: str, epoch: int) -> Optional[int]:
 
 
 def lacks_commit(path: str, epoch: int, number: int) -> bool:
-    """Whether a log that never lets go of anything has no commit of the transaction `EPOCH.NUMBER`. False where it may let go, and
-    where it can't be looked at."""
+    """Whether a log that lets go of nothing has no commit of the transaction `EPOCH.NUMBER`. False where it may have let go,
+    and where it can't be looked at."""
     try:
         with open(path, "rb") as log:
             is_whole = _head(log, path).version < 3

@@ -5,6 +5,7 @@ from __future__ import annotations
 
 import hashlib
 import os
+import threading
 from typing import BinaryIO, NamedTuple, Optional
 
 from .errors import Down
@@ -14,10 +15,12 @@ from .schema import unreadable
 from .values import Mark
 
 FILE = "not_before"
-"""Of a site's folder: it holds `EPOCH LENGTH`, as the option `--not-before` has them, and a line for each of `Kept.copies`."""
+"""Of a site's folder: it holds `EPOCH LENGTH`, as the option `--not-before` has them, and where older copies had come so far a
+line for each, `copy SIZE SHA256`."""
 _OLDER = ": older than --not-before: "
 PIECE = 1 << 20
 """Bytes of a log that are read together."""
+_writing = threading.Lock()
 
 
 class Copy(NamedTuple):
@@ -27,7 +30,7 @@ class Copy(NamedTuple):
     digest: str
 
 
-class Kept(NamedTuple):
+class NotBefore(NamedTuple):
     """What the file holds: how far a log has to have come, and the older copies that had come so far by themselves, as by what
     they sold before they were refused: the mark alone wouldn't refuse them."""
 
@@ -48,36 +51,41 @@ def joined(first: Optional[Mark], second: Optional[Mark]) -> Optional[Mark]:
 
 
 def wanted_mark(folder: str) -> Optional[Mark]:
-    """How far the log in this folder has to have come; None where none was ever refused there. Raises `Down` where the file of it
-    can't be read, or has no mark in it, and where the log is one of its copies."""
+    """How far the log in this folder has to have come; None where none was ever refused there. Raises `Down` where the file of
+    it can't be read, or has no mark in it, and where the log is one of its copies."""
     kept = _read(folder)
     if kept is None:
         return None
     path = os.path.join(folder, "log")
     if any(_is_copy(path, copy) for copy in kept.copies):
-        raise Down(f"{path}: older than its mark, epoch {kept.mark.epoch}, length {kept.mark.length}, though it was served beyond: put "
-                   f"the newest log back{_told(folder, kept.mark)}", 3)
+        mark = kept.mark
+        raise Down(f"{path}: older than its mark, epoch {mark.epoch}, length {mark.length}, though it was served beyond: put "
+                   f"the newest log back{_told(folder, mark)}", 3)
     return kept.mark
 
 
 def keep_mark(folder: str, mark: Mark) -> None:
-    """From now on a log is refused here that hasn't come so far, or as far as was wanted before. Raises `OSError` where that can't
-    be written, and `Down` where what is there has no mark in it."""
-    kept = _read(folder) or Kept(mark)
-    _write(folder, Kept(joined(mark, kept.mark) or mark, kept.copies))
+    """From now on a log is refused here that hasn't come so far, or as far as was wanted before. Raises `OSError` where that
+    can't be written, and `Down` where what is there has no mark in it."""
+    with _writing:
+        kept = _read(folder) or NotBefore(mark)
+        _write(folder, NotBefore(joined(mark, kept.mark) or mark, kept.copies))
 
 
 def keep_copy(folder: str, epoch: int) -> None:
     """From now on the log that was refused here and has ended in this epoch is refused itself, where it has come as far as the
     mark. Raises as `keep_mark`."""
-    path, kept = os.path.join(folder, "log"), _read(folder)
-    if kept is None or not reaches(Mark(epoch, Records(path).length()), kept.mark):
-        return
-    with open(path, "rb") as log:
-        size = os.fstat(log.fileno()).st_size
-        copy = Copy(size, _digest(log, size))
-    if copy not in kept.copies:
-        _write(folder, Kept(kept.mark, (*kept.copies, copy)))
+    path = os.path.join(folder, "log")
+    last = Mark(epoch, Records(path).length())
+    with _writing:
+        kept = _read(folder)
+        if kept is None or not reaches(last, kept.mark):
+            return
+        with open(path, "rb") as log:
+            size = os.fstat(log.fileno()).st_size
+            copy = Copy(size, _digest(log, size))
+        if copy not in kept.copies:
+            _write(folder, NotBefore(kept.mark, (*kept.copies, copy)))
 
 
 def advice(folder: str, told: str) -> str:
@@ -93,26 +101,28 @@ def advice(folder: str, told: str) -> str:
 
 
 def _told(folder: str, mark: Mark) -> str:
-    return (f": {os.path.join(folder, FILE)} holds the mark that refused it, epoch {mark.epoch}, length {mark.length}: the file may stay, "
-            "a log that has come so far passes it; only where nothing was sold or given since, and the medium's mark was removed too, "
+    """Where the mark is that refused a log, and what to do."""
+    path = os.path.join(folder, FILE)
+    return (f": {path} holds the mark that refused it, epoch {mark.epoch}, length {mark.length}: the file may stay, a log that "
+            "has come so far passes it; only where nothing was sold or given since, and the medium's mark was removed too, "
             "remove the file")
 
 
-def _read(folder: str) -> Optional[Kept]:
+def _read(folder: str) -> Optional[NotBefore]:
     path = os.path.join(folder, FILE)
     try:
         with open(path, encoding="ascii", errors="replace") as file:
             first, *lines = file.read().rstrip().split("\n")
         epoch, length = first.split()
         copies = tuple(Copy(_number(size), digest) for size, digest in (line.removeprefix("copy ").split() for line in lines))
-        return Kept(Mark(_number(epoch), _number(length)), copies)
+        return NotBefore(Mark(_number(epoch), _number(length)), copies)
     except FileNotFoundError:
         return None
     except OSError as fault:
         raise unreadable(path, fault) from fault
     except ValueError as fault:
-        raise Down(f"{path}: isn't two numbers, the epoch and the length of the mark that refused an older log here: write those that "
-                   "escrow_site show tells of the newest log", 3) from fault
+        raise Down(f"{path}: isn't two numbers, the epoch and the length of the mark that refused an older log here: write "
+                   "those that escrow_site show tells of the newest log", 3) from fault
 
 
 def _number(word: str) -> int:
@@ -122,7 +132,7 @@ def _number(word: str) -> int:
     return number
 
 
-def _write(folder: str, kept: Kept) -> None:
+def _write(folder: str, kept: NotBefore) -> None:
     """Puts the file in place as a whole: it stays, whatever stops."""
     path = os.path.join(folder, FILE)
     lines = (f"{kept.mark.epoch} {kept.mark.length}", *(f"copy {copy.size} {copy.digest}" for copy in kept.copies))

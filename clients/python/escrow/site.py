@@ -186,8 +186,8 @@ class Site:
         return ConnectedSite(path, **options)
 
     def _wanted(self, not_before: Optional[Mark], last_id: Optional[str]) -> Optional[Mark]:
-        """How far the log has to have come. Raises `Down`, and lets go of the folder, where it is known before the start that the
-        log is an older one."""
+        """How far the log has to have come. Raises `Down`, and lets go of the folder, where it is known before the start that
+        the log is an older one."""
         try:
             wanted = joined(not_before, wanted_mark(self.folder))
             if last_id is not None and lacks_commit(self._records.path, *read_id(last_id).numbers()):

@@ -3,8 +3,9 @@ else. Site 3 logs in as `site3`.
 
     python3 -m escrow_carrier shop0 shop1 shop2 > access
 
-Ends with status 2 where no folder is named, or a flag that it hasn't got, with 3 where one isn't a site's, and with 5 where that
-can't be read; then it prints one line, on standard error, and no list. A folder whose name begins with `-` is given as `./-..`."""
+Ends with status 2 where no folder is named, or a flag that it hasn't got, with 3 where one isn't a site's, and with 5 where
+one can't be read; then it prints one line, on standard error, and no list. A folder whose name begins with `-` is given as
+`./-..`."""
 import sys
 
 from escrow import Down

@@ -146,8 +146,8 @@ class Carrier:
 
     @property
     def last_fault(self) -> Optional[Exception]:
-        """Why the site was closed as an older copy; else why no messages go out, a `ConnectionError`, as long as that is so; else
-        the last fault of a command that the site didn't answer, or None."""
+        """Why the site was closed as an older copy; else why no messages go out, a `ConnectionError`, as long as that is so;
+        else the last fault of a command that the site didn't answer, or None."""
         told = "" if self._newer is not None else getattr(self.medium, "last_fault", "")
         return ConnectionError(told) if told else self._fault
 
@@ -490,8 +490,8 @@ class Carrier:
         try:
             keep()
         except (OSError, Down) as fault:
-            log.error("%s: the mark that refuses this older log isn't kept in its folder: %s: put the newest log back before the "
-                      "next start: each one makes this log longer, until it passes that mark", self.site.folder, fault)
+            log.error("%s: the mark that refuses this older log isn't kept in its folder: %s: put the newest log back before "
+                      "the next start: each one makes this log longer, until it passes that mark", self.site.folder, fault)
 
     def _look(self) -> None:
         """Tells all anew, and evens out what is quiet. The site isn't asked where it has answered nothing since the

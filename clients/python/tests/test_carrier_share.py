@@ -123,10 +123,10 @@ class WithoutPahoTest(unittest.TestCase):
         return subprocess.run(words, cwd=PACKAGES, capture_output=True, text=True, check=False)
 
     def test_what_installs_it(self) -> None:
-        for statement in "from escrow_carrier import Mqtt", "import escrow_carrier; escrow_carrier.Mqtt", "import escrow_carrier.mqtt":
-            told = self.told(statement)
-            self.assertEqual(told.stderr.strip().split("\n")[-1], "ModuleNotFoundError: Mqtt needs paho-mqtt, which this Python hasn't "
-                             "got: install Debian's python3-paho-mqtt, for /usr/bin/python3, as tools/install_clients --shop does, or "
+        statements = "from escrow_carrier import Mqtt", "import escrow_carrier as it; it.Mqtt", "import escrow_carrier.mqtt"
+        for last in (self.told(it).stderr.strip().split("\n")[-1] for it in statements):
+            self.assertEqual(last, "ModuleNotFoundError: Mqtt needs paho-mqtt, which this Python hasn't got: install Debian's "
+                             "python3-paho-mqtt, for /usr/bin/python3, as tools/install_clients --shop does, or "
                              "`pip install paho-mqtt`")
 
     def test_all_else_is_there(self) -> None:

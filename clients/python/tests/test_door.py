@@ -385,7 +385,8 @@ class ComeInTest(DoorTest):
         self.assertEqual(raised.exception.status, 6)
         self.assertEqual(self.refused(door.folder, "--socket", f"{door.path}2")[0], 6)
         status, text = self.refused(os.path.join(self.place, "nothing"), "--socket", f"{door.path}2")
-        self.assertEqual((status, "isn't there: look whether its disk is: a site's folder is made by create, once" in text), (3, True), text)
+        made = "isn't there: look whether its disk is: a site's folder is made by create, once"
+        self.assertEqual((status, made in text), (3, True), text)
         status, text = self.refused(self.folder(SHOP, 1, "other"))
         self.assertEqual((status, "name one by --socket PATH" in text), (2, True), text)
         self.assertEqual(self.refused(self.folder(SHOP, 1, "third"), "--socket", "/none/at/all")[0], 2)

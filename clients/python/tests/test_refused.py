@@ -17,8 +17,8 @@ from escrow import Down, Mark, Site
 from escrow.records import lacks_commit
 from escrow.refused import keep_mark, wanted_mark
 
-STAYS = ("the file may stay, a log that has come so far passes it; only where nothing was sold or given since, and the medium's mark was "
-         "removed too, remove the file")
+STAYS = ("the file may stay, a log that has come so far passes it; only where nothing was sold or given since, and the "
+         "medium's mark was removed too, remove the file")
 NO_MARKS = ("", "1", "1 2 3", "one two", "-1 2", "18446744073709551616 0", "1 2\ncopy 3\n")
 
 
@@ -117,8 +117,8 @@ class OlderTest(Copied):
         self.hub.tell(f"{self.top}/0/mark", f"{mark.epoch} {mark.length}", False)
         wait_until(lambda: not carrier._worker.is_alive())
         for _ in range(3):
-            self.assertEqual(self.refused_start(), f"{self.shop}/log: older than its mark, epoch {mark.epoch}, length {mark.length}, "
-                             f"though it was served beyond: put the newest log back{self.told(mark)}")
+            self.assertEqual(self.refused_start(), f"{self.shop}/log: older than its mark, epoch {mark.epoch}, length "
+                             f"{mark.length}, though it was served beyond: put the newest log back{self.told(mark)}")
         self.put_newest_log_back()
         site = self.serve()
         self.carrier(0)
@@ -183,9 +183,10 @@ class LastIdTest(SiteTest):
         path = os.path.join(self.place, "log")
         self.assertFalse(lacks_commit(path, 1, 1))
         front = b"number 0\nworld 00\n"
-        for head, is_whole in (b"escrow log 1\n", True), (b"escrow log 2\n", True), (b"escrow log 3\n", False), (b"escrow log 4\n", False):
+        for version, is_whole in (1, True), (2, True), (3, False), (4, False):
             with open(path, "wb") as log:
-                log.write(head + front + b"head 0 0\nsum 00\nR 1\nC 1 11 0 -1\nK 1.2 x\nC 1 3 0 -1\n")
+                log.write(b"escrow log %d\n" % version + front)
+                log.write(b"head 0 0\nsum 00\nR 1\nC 1 11 0 -1\nK 1.2 x\nC 1 3 0 -1\n")
             told = [lacks_commit(path, 1, number) for number in (1, 2, 3, 11)]
             self.assertEqual(told, [is_whole, is_whole, False, False])
 
@@ -201,8 +202,9 @@ class ReadTest(SiteTest):
             (OSError(5, "Input/output error"), "look whether its disk is", 5),
             (FileNotFoundError(2, "No such file or directory"), "a site's folder is made by create, once", 3),
         ):
-            with self.subTest(fault), patch("escrow.schema.open", side_effect=fault, create=True), self.assertRaises(Down) as down:
-                escrow.Site(os.path.dirname(path), program=escrow_site())
+            with self.subTest(fault), patch("escrow.schema.open", side_effect=fault, create=True):
+                with self.assertRaises(Down) as down:
+                    escrow.Site(os.path.dirname(path), program=escrow_site())
             why = "isn't there: look whether its disk is" if status == 3 else fault.strerror
             self.assertEqual((str(down.exception), down.exception.status), (f"{path}: {why}: {remedy}", status))
 
