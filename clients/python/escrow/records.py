@@ -94,11 +94,15 @@ def served_between(folder: str, ours: Mark, now: Mark) -> bool:
     the log, and nothing else; whoever serves the site leaves more. Reads what was added since our run, where the epochs
     don't follow one another. What was let go of may have been anybody's.
     """
-    if now.epoch == ours.epoch + 1:
-        return False
+    return now.epoch != ours.epoch + 1 and more_than_starts(folder, ours.epoch + 1)
+
+
+def more_than_starts(folder: str, epoch: int) -> bool:
+    """Whether the log has more than starts from the one on that began this epoch; also where that isn't found, as where it was
+    let go of."""
     try:
         with open(os.path.join(folder, "log"), "rb") as log:
-            place = find_last(log, b"\nR %d\n" % (ours.epoch + 1), os.fstat(log.fileno()).st_size) + 1
+            place = find_last(log, b"\nR %d\n" % epoch, os.fstat(log.fileno()).st_size) + 1
             log.seek(max(place, 0))
             return place <= 0 or any(line[:2] not in (b"R ", b"S ") for line in log if not line.startswith(SUM))
     except OSError:

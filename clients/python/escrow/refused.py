@@ -10,7 +10,7 @@ from typing import BinaryIO, NamedTuple, Optional
 
 from .errors import Down
 from .numbers import U64
-from .records import Records
+from .records import Records, more_than_starts
 from .schema import unreadable
 from .values import Mark
 
@@ -72,9 +72,12 @@ def keep_mark(folder: str, mark: Mark) -> None:
         _write(folder, NotBefore(joined(mark, kept.mark) or mark, kept.copies))
 
 
-def keep_copy(folder: str, epoch: int) -> None:
-    """From now on the log that was refused here and has ended in this epoch is refused itself, where it has come as far as the
-    mark. Raises as `keep_mark`."""
+def keep_copy(folder: str, first: int, epoch: int) -> None:
+    """From now on the log that was refused here, which went on with the epoch `first` and has ended in this one, is refused
+    itself, where it has come as far as the mark by more than starts: with these alone the newest log may begin too. Raises as
+    `keep_mark`."""
+    if not more_than_starts(folder, first):
+        return
     path = os.path.join(folder, "log")
     last = Mark(epoch, Records(path).length())
     with _writing:

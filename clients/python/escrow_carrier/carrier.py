@@ -484,7 +484,7 @@ class Carrier:
         self._publish(Marked(self.site.number, mark), True)
         self.site.pipeline.die(self._marks.refusal(folder, newer))
         self.site.close()
-        self._keep_in_folder(lambda: keep_copy(folder, self.site.epoch))
+        self._keep_in_folder(lambda: keep_copy(folder, self._marks.start.epoch + 1, self.site.epoch))
 
     def _keep_in_folder(self, keep: Callable[[], None]) -> None:
         try:

@@ -125,6 +125,24 @@ class OlderTest(Copied):
         site.change("stock", -3)
         self.assertEqual(self.text().split("\n")[0], f"{mark.epoch} {mark.length}")
 
+    def test_a_copy_that_lacks_a_start_alone_keeps_the_newest_log_from_nothing(self) -> None:
+        self.sites[0].close()
+        self.take_copy()
+        site = self.serve()                             # no sale behind the copy: both logs begin alike
+        carrier = self.carrier(0)
+        wait_until(lambda: f"{self.top}/0/mark" in self.hub.kept)
+        mark = site.newest_mark()
+        carrier.close()
+        site.close()
+        self.put_back(self.copy)
+        self.serve()
+        self.assertIn("older than its mark", self.refused(self.hub.port()))
+        self.assertEqual(self.text(), f"{mark.epoch} {mark.length}\n")
+        self.put_newest_log_back()
+        site = self.serve()
+        self.carrier(0)
+        site.change("stock", -3)
+
     def test_a_file_without_a_mark_is_told_and_nothing_is_started(self) -> None:
         self.sites[0].close()
         for text in NO_MARKS:
