@@ -287,6 +287,86 @@ def refuse_old_copy(program: Program) -> None:
     refuses(program, site, ["serve", "--not-before", "0", "17"], 3, told)
 
 
+MARKED = "older than its mark in not_before, epoch 2, length 20: put the newest log back"
+NO_MARK = (
+    "isn't two numbers, the epoch and the length of the mark that refused an older log here: "
+    "write those that escrow_site show tells of the newest log"
+)
+NO_MARKS = ("", "\n", "2", "2 \n", " 2 20\n", "2  20\n", "2 20 1\n", "two 20\n", "2 -1\n", "02 20\n", "\n2 20\n")
+PASSED = ("1 16", "1 16\n", "0 0\n", "1 4\ncopy 16 00\n")
+
+
+def refuse_marked_copy(program: Program) -> None:
+    """A mark that refused an older log holds for each start in its folder, and for what goes by the logs of the world."""
+    site, other = (program.created(f"marked{number}", SHOP, number) for number in range(2))
+    copy, log = f"{site.folder}.copy", f"{site.folder}/log"
+    program.ends(["serve", site.folder], 0, FIRST.format(1, 4, 1) + SOLD, "", COMMIT)
+    shutil.copyfile(log, copy)
+    program.ends(["serve", site.folder], 0, FIRST.format(2, 20, 2), "")
+    program.file("marked0/not_before", "2 20\n")
+    for words in (["check"], ["settle", "--dry-run"]):
+        status, _, told = program.run([*words, site.folder, other.folder])
+        if status != 0:
+            raise Fault(f"{words}: a log that has come to its mark is refused: {told}")
+    shutil.copyfile(copy, log)
+    told = f"{log}: epoch 1, length 16: {MARKED}"
+    for options in ([], ["--not-before", "1", "16"], ["--keep", "0"], ["--no-sync"]):
+        refuses(program, site, ["serve", *options], 3, told)
+    for options in ([other.folder], [], [other.folder, "--dry-run"], [other.folder, "--again"]):
+        refuses(program, site, ["settle", *options], 3, told)
+    for words in (["show", site.folder], ["check", site.folder, other.folder]):
+        status, _, told = program.run(words)
+        if status != 0:
+            raise Fault(f"{words}: an older copy isn't looked at: {told}")
+    refuses(program, site, ["serve", "--not-before", "1", "17"], 3,
+            f"{log}: epoch 1, length 16: older than --not-before: put the newest log back")
+    for text in NO_MARKS:
+        program.file("marked0/not_before", text)
+        refuses(program, site, ["serve"], 3, f"{site.folder}/not_before: {NO_MARK}")
+    for text in PASSED:
+        program.file("marked0/not_before", text)
+        shutil.copyfile(copy, log)
+        program.ends(["serve", site.folder], 0, FIRST.format(2, 20, 2), "")
+    os.remove(f"{site.folder}/not_before")
+    os.mkdir(f"{site.folder}/not_before")
+    program.ends(["serve", site.folder], 5, "", f"{site.folder}/not_before: Is a directory (os error 21)")
+
+
+READS = ("show", "verify", "check", "settle", "weave", "judge")
+"""What is asked of folders beside `serve`."""
+
+
+def refuse_files_as_folders(program: Program) -> None:
+    """Who names a file of the folder is told what to name."""
+    named = f"{program.created('named').folder}/log"
+    for task, name in (("serve", "log"), ("verify", "log"), *((it, "site") for it in READS if it != "verify")):
+        told = f"{named}/{name}: isn't in a folder: name the one that create made, not a file in it"
+        program.ends([task, named], 3, "", told)
+
+
+def refuse_output_in_a_folder(program: Program) -> None:
+    """No answer is written among the records, as by `>> FOLDER/log`, nor the text of a fault, as by `2>> FOLDER/log`: that is
+    told where it spoils nothing."""
+    site = program.created("output", SHOP, 0, True)
+    program.ends(["serve", "--trace", site.folder], 0, FIRST.format(1, 4, 1), "")
+    program.put("output/not_before", b"1 4\n")
+    before = files_of(site.folder)
+    for name, words in itertools.product(sorted(before), (["serve", "--trace"], *([it] for it in READS))):
+        words, path = [*words, site.folder], f"{site.folder}/{name}"
+        with open(path, "ab") as stream:
+            told = f"{path}: is where standard output goes: send that elsewhere"
+            program.ends(words, 3, "", told, COMMIT, stdout=stream)
+            told = f"escrow_site: {path}: is where standard error goes: send that elsewhere\n"
+            program.ends(words, 3, told, "", COMMIT, stderr=stream)
+            program.ends(words, 3, "", "", COMMIT, stdout=stream, stderr=stream)
+    if files_of(site.folder) != before:
+        raise Fault(f"{site.folder}: refused, and changed")
+    with open(f"{site.folder}.answers", "ab") as stream:
+        program.ends(["serve", "--trace", site.folder], 0, "", "", COMMIT, stdout=stream, stderr=stream)
+    if files_of(site.folder)["log"] == before["log"]:
+        raise Fault(f"{site.folder}: not served into another file")
+
+
 NO_TRACE = "isn't there: only a site that was always served with --trace has one"
 NOT_ITS_TRACE = "isn't the trace of this site: put its own newest trace back"
 BEHIND = "is behind its log, which has records of no entry in it: put its own newest trace back"
@@ -590,6 +670,9 @@ MISUSES = (
     keep_closed_batches,
     refuse_exchanged,
     refuse_old_copy,
+    refuse_marked_copy,
+    refuse_files_as_folders,
+    refuse_output_in_a_folder,
     refuse_folder_lists,
     refuse_worlds,
     refuse_two_faults,

@@ -30,6 +30,7 @@ TORN_TRACE = (
     b"0 begin -> begun 1.2\n0 escrow 1.2 stock -1 -> granted\n0 commit 1.2 -> committed\n0 give 1 stock lower 1 -> given 4\n0 re"
 )
 KILL, TEAR = "kill", "tear"
+STREAMS = ("/proc/self/fd/1", "/proc/self/fd/2")
 NO_ROOM = ("make", "mkdir", "write", "fsync", "ftruncate")
 
 
@@ -134,11 +135,12 @@ def places(folder: str, path: str) -> list[str]:
 
 
 def check_told(ended: Ended, folders: list[str]) -> None:
-    """A process that was killed tells nothing; a call that failed is told, but for a `close`, which changes nothing."""
+    """A process that was killed tells nothing; a call that failed is told, but for a `close`, which changes nothing, and the
+    question where a standard stream goes."""
     call = ended.stopped()
     if ended.how in (KILL, TEAR):
         is_right = (ended.status, ended.err) == (-9, "")
-    elif call.name == "close":
+    elif call.name == "close" or call.path in STREAMS:
         is_right = (ended.status, ended.err) == (0, "")
     elif call.path in ("stdin", "stdout"):
         is_right = (ended.status, ended.err) == (1, f"escrow_site: {'read' if call.path == 'stdin' else 'write'} fault\n")

@@ -13,8 +13,9 @@
  * - a handle is {0} or what a call left of it, and never read or written by the caller; of its copies one alone is
  *   used;
  * - one call at a time has a handle, on any thread: a lock, or a join, stands between two;
- * - malloc, realloc and free are one allocator, which aligns to 16; no call is made from a signal handler, nor in the
- *   child of a fork of a program with threads. A call takes some 30 kB of stack.
+ * - malloc, realloc and free are one allocator, which aligns to 16; no call is made from a signal handler. A call takes
+ *   some 30 kB of stack;
+ * - a site stays with the process that opened it: in a child of a fork no call is made for it, or both sell the same.
  *
  * Quantities are whole numbers of a field's own units; rights are counted in the same. A text is bytes without a line
  * feed and without a 0 at its end, as docs/FORMATS.md spells it. Numbers are those of one machine: nothing here is

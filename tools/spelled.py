@@ -185,6 +185,9 @@ def faults_of_python(made: Tables) -> Iterator[str]:
     telling = ", ".join(f"Refusal.{it.upper}" for it in made.refusals.values() if it.told)
     if f"\n_TELLING = ({telling})\n" not in text:
         yield f"{place}: _TELLING isn't ({telling})"
+    place = "clients/python/escrow/door/plan.py"        # a door begins and restarts by itself
+    passed = {it.words: "passed" for it in made.commands.values() if "txn" not in it.told and it.name not in ("Begin", "Restart")}
+    yield from differing(place, "", {it: "passed" for it in array(text_of(place), "PASSED = frozenset((")}, passed)
     place = "clients/python/escrow_board/refusals.py"
     expected = made.refusals["NothingGiven"]
     if f'\nEXPECTED = "{expected.number} {expected.words}"\n' not in text_of(place):
@@ -230,6 +233,9 @@ def faults_of_formats(made: Tables) -> Iterator[str]:
     due = {it.words: it.number for it in made.refusals.values()}
     rows = {it[2]: int(it[1]) for it in told if it and it[2] in due}
     yield from differing(place, "refusal ", rows, due)
+    asked = re.findall(r"^(`.*?) \|", text.partition("\nUnanswered | ")[2].partition("\n\n")[0], re.M)
+    there = [it for row in asked for it in re.findall(r"`([a-z]+)", row) if it != "kept"]
+    yield from differing(place, "what is unanswered: ", {it: "there" for it in there}, {it.words: "there" for it in made.commands.values()})
 
 
 def faults_of_texts(made: Tables) -> Iterator[str]:

@@ -103,7 +103,7 @@ static void of_numbers(escrow_handle *handle) {
     ask.right = 2;
     answer.kind = 77;
     EXPECT(escrow_site_ask(handle, &ask, &answer) == ESCROW_NO_COMMAND && answer.kind == 77);
-    ask = (escrow_ask){.kind = 13};
+    ask = (escrow_ask){.kind = UINT32_MAX};
     EXPECT(escrow_site_ask(handle, &ask, &answer) == ESCROW_NO_COMMAND && answer.kind == 77);
 }
 

@@ -13,7 +13,10 @@ import (
 	"time"
 )
 
-const wait = 10 * time.Second // for a door that isn't there yet
+const (
+	wait    = 10 * time.Second // for a door that isn't there yet, or a program that doesn't serve yet
+	longest = 107              // bytes of the path of a socket
+)
 
 // doorFault is what the door ended the connection by, or why there is none.
 type doorFault struct{ why string }
@@ -38,18 +41,30 @@ func Connect(path string) (*Site, error) {
 			peer.Close()
 			err = fault
 			if !errors.Is(err, ErrDoor) {
-				return nil, fmt.Errorf("%s: %w", path, err)
+				return nil, err
 			}
 		} else if !errors.Is(err, os.ErrNotExist) && !errors.Is(err, syscall.ECONNREFUSED) {
-			if errors.Is(err, os.ErrPermission) {
-				err = fmt.Errorf("%w: its owner and mode tell who may come in", err)
-			}
-			return nil, fmt.Errorf("%w: %v", ErrDoor, err)
+			return nil, noWay(path, err)
 		}
 		if time.Now().After(end) {
-			return nil, fmt.Errorf("%w: %v: start one: python3 -m escrow.door FOLDER --socket %s", ErrDoor, err, path)
+			return nil, noWay(path, err)
 		}
 	}
+}
+
+// noWay tells why there is no way in at this path, and what to do.
+func noWay(path string, err error) error {
+	var fault doorFault
+	advice := "start one: python3 -m escrow.door FOLDER --socket " + path
+	switch {
+	case errors.As(err, &fault): // one is there
+		return fmt.Errorf("%w: %s: %s: its standard error tells more", ErrDoor, path, fault.why)
+	case errors.Is(err, os.ErrPermission):
+		advice = "its owner and mode tell who may come in"
+	case errors.Is(err, syscall.EINVAL) && len(path) > longest:
+		advice = fmt.Sprintf("a path of a socket has %d bytes at most: have the door make a shorter one", longest)
+	}
+	return fmt.Errorf("%w: %v: %s", ErrDoor, err, advice)
 }
 
 // greetDoor reads the first lines. With the first byte a descriptor comes, which no program in between passes on.
@@ -58,7 +73,7 @@ func greetDoor(peer *net.UnixConn, end time.Time) (*Site, error) {
 		if errors.Is(err, os.ErrDeadlineExceeded) {
 			return doorFault{"it doesn't answer: its site doesn't stand yet, or it stands still"}
 		}
-		return doorFault{fmt.Sprintf("it has ended before it answered: %v", err)}
+		return doorFault{fmt.Sprintf("it ended the connection before it answered (%v)", err)}
 	}
 	peer.SetReadDeadline(end)
 	first, control := make([]byte, 1), make([]byte, syscall.CmsgSpace(4))
@@ -81,12 +96,13 @@ func greetDoor(peer *net.UnixConn, end time.Time) (*Site, error) {
 	}
 	words := hello.FindStringSubmatch(told)
 	if words == nil {
-		return nil, otherVersion(told)
+		return nil, otherVersion(peer.RemoteAddr().String(), told)
 	}
 	epoch, _ := strconv.ParseUint(words[5], 10, 32)
-	own := newLines(epoch, peer, peer, isDirect)
+	own := newLines(epoch, peer)
+	own.door, own.isDirect = peer, isDirect
 	site := &Site{world: words[2], number: words[1], header: words[3], mayForget: words[4] == "2", lines: own}
-	go site.lines.read(in)
+	site.follow(in)
 	return site, nil
 }
 

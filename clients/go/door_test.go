@@ -5,6 +5,7 @@ package escrow
 
 import (
 	"bufio"
+	"context"
 	"errors"
 	"fmt"
 	"io"
@@ -65,13 +66,32 @@ func (it *door) start() {
 			return false
 		}
 		defer peer.Close()
-		peer.SetReadDeadline(time.Now().Add(time.Second))
+		peer.SetReadDeadline(time.Now().Add(20 * time.Second))
 		_, err = peer.Read(make([]byte, 8))
 		return err == nil
 	})
 }
 
 func (it *door) signal(which syscall.Signal) { it.process.Process.Signal(which) }
+
+func (it *door) standStill() { standStill(it.t, it.process.Process.Pid) }
+
+// standStill has a process do nothing from now on, and returns once that is so.
+func standStill(t *testing.T, pid int) {
+	t.Helper()
+	syscall.Kill(pid, syscall.SIGSTOP)
+	until(t, func() bool {
+		told, _ := os.ReadFile(fmt.Sprintf("/proc/%d/stat", pid))
+		return strings.HasPrefix(string(told[strings.LastIndex(string(told), ")")+1:]), " T ")
+	})
+}
+
+// isAsked tells whether a call of this site is taken, and not answered yet.
+func isAsked(site *Site) bool {
+	site.lines.mutex.Lock()
+	defer site.lines.mutex.Unlock()
+	return len(site.lines.pending) > 0
+}
 
 func (it *door) kill() {
 	it.process.Process.Kill()
@@ -96,8 +116,12 @@ func (it *door) site(timeout time.Duration) *Site {
 	return site
 }
 
+// inTime is so long that, also on a busy machine, who is there has taken a line, or answered it.
+const inTime = 4 * time.Second
+
 func until(t *testing.T, holds func() bool) {
-	for end := time.Now().Add(time.Minute); !holds(); time.Sleep(5 * time.Millisecond) {
+	t.Helper()
+	for end := time.Now().Add(3 * time.Minute); !holds(); time.Sleep(5 * time.Millisecond) {
 		if time.Now().After(end) {
 			t.Fatal("it didn't come in time")
 		}
@@ -290,13 +314,13 @@ func TestWaitsEnd(t *testing.T) {
 	program, folder := madeOf(t, two)
 	it := opened(t, two)
 	own := started(t, program, folder)
-	own.Timeout = 1500 * time.Millisecond
+	own.Timeout = inTime
 	defer own.End()
-	for site, many := range map[*Site]int{own: 63, it.site(1500 * time.Millisecond): 32} {
+	for site, many := range map[*Site]int{own: 63, it.site(inTime): 32} {
 		all := held(t, site, many)
 		for range [2]int{} {
 			began := time.Now()
-			if _, err := site.Begin("stock", 1); err != ErrBusy || time.Since(began) > 9*time.Second || !site.Up() {
+			if _, err := site.Begin("stock", 1); err != ErrBusy || time.Since(began) > time.Minute || !site.Up() {
 				t.Error(err, time.Since(began), site.Up())
 			}
 		}
@@ -320,17 +344,17 @@ func TestWaitsEnd(t *testing.T) {
 	}
 	all.Wait()
 	if site.Up() {
-		site.Timeout = 5 * time.Second
+		site.Timeout = time.Minute
 		end(held(t, site, 32))
 	}
-	end(held(t, it.site(5*time.Second), 32))
+	end(held(t, it.site(time.Minute), 32))
 }
 
 func TestDoorStandsStill(t *testing.T) {
 	it := opened(t, two)
-	site := it.site(1500 * time.Millisecond)
+	site := it.site(inTime)
 	begun := held(t, site, 1)[0]
-	it.signal(syscall.SIGSTOP)
+	it.standStill()
 	began := time.Now()
 	if _, err := site.Change("stock", -1); err != ErrBusy {
 		t.Error(err)
@@ -344,7 +368,7 @@ func TestDoorStandsStill(t *testing.T) {
 	if changed, err := begun.Change("seats", -1), begun.Commit(); changed != error(Lost{begun.ID}) || err != error(Lost{begun.ID}) {
 		t.Error(changed, err)
 	}
-	if err := site.End(); !errors.Is(err, ErrDoor) || time.Since(began) > 9*time.Second {
+	if err := site.End(); !errors.Is(err, ErrDoor) || time.Since(began) > time.Minute {
 		t.Error(err, time.Since(began))
 	}
 	it.signal(syscall.SIGCONT)
@@ -360,10 +384,10 @@ func TestDoorStandsStill(t *testing.T) {
 
 func TestTakenIsInDoubt(t *testing.T) {
 	it := opened(t, two)
-	site := it.site(1500 * time.Millisecond)
+	site := it.site(inTime)
 	begun := held(t, site, 1)[0]
 	served := it.served()
-	syscall.Kill(served, syscall.SIGSTOP)
+	standStill(t, served)
 	var doubt InDoubt
 	if _, err := site.Change("stock", -1); !errors.As(err, &doubt) || !strings.HasSuffix(doubt.ID, "-1-1.2") || !site.Up() {
 		t.Error(err, site.Up())
@@ -387,10 +411,10 @@ func TestTakenIsInDoubt(t *testing.T) {
 	}
 	share(t, site, 20, 30)
 	// A door that dies once it has taken it.
-	syscall.Kill(served, syscall.SIGSTOP)
+	standStill(t, served)
 	other2, told := it.site(0), make(chan error)
 	go func() { _, err := other2.Change("stock", -1); told <- err }()
-	time.Sleep(time.Second) // by then it is taken
+	until(t, func() bool { return isAsked(other2) })
 	it.kill()
 	syscall.Kill(served, syscall.SIGCONT)
 	if err := <-told; !errors.As(err, &doubt) {
@@ -413,9 +437,9 @@ func TestTakenIsInDoubt(t *testing.T) {
 func TestStopOfTheProcess(t *testing.T) {
 	program, folder := madeOf(t, two)
 	site := started(t, program, folder)
-	site.Timeout = 1500 * time.Millisecond
+	site.Timeout = inTime
 	begun := held(t, site, 1)[0]
-	site.command.Process.Signal(syscall.SIGSTOP)
+	standStill(t, site.command.Process.Pid)
 	var doubt InDoubt
 	if _, err := site.Change("stock", -1); !errors.As(err, &doubt) {
 		t.Error(err)
@@ -444,8 +468,8 @@ func TestStopOfTheProcess(t *testing.T) {
 }
 
 func TestDeadReader(t *testing.T) {
-	it := opened(t, two, "--slow", "5")
-	site := it.site(5 * time.Second)
+	it := opened(t, two, "--slow", "12")
+	site := it.site(time.Minute)
 	dead, err := net.Dial("unix", it.path) // it asks, and never reads
 	if err != nil {
 		t.Fatal(err)
@@ -461,7 +485,7 @@ func TestDeadReader(t *testing.T) {
 			t.Fatal(err)
 		}
 	}
-	if time.Since(began) > 4*time.Second { // while it is there
+	if time.Since(began) > 10*time.Second { // while it is there
 		t.Error(time.Since(began))
 	}
 	until(t, func() bool {
@@ -480,7 +504,7 @@ func TestFullDisk(t *testing.T) {
 	}
 	t.Cleanup(func() { syscall.Unmount(disk, syscall.MNT_DETACH) })
 	it := openedIn(t, disk, two)
-	site := it.site(5 * time.Second)
+	site := it.site(time.Minute)
 	if _, err := site.Change("stock", -1); err != nil {
 		t.Fatal(err)
 	}
@@ -503,7 +527,7 @@ func TestFullDisk(t *testing.T) {
 		t.Error(err) // the door waits until there is room
 	}
 	os.Remove(filler.Name())
-	site = it.site(5 * time.Second)
+	site = it.site(time.Minute)
 	if kept := false; doubt.ID != "" {
 		if kept, err = site.Kept(doubt.ID); err != nil {
 			t.Error(err)
@@ -545,10 +569,11 @@ func TestBetween(t *testing.T) {
 	if err != nil {
 		t.Fatal(err)
 	}
-	site.Timeout = 1500 * time.Millisecond
+	site.Timeout = time.Minute
 	first, err := site.Change("stock", -1)
 	begun := held(t, site, 1)[0]
-	it.signal(syscall.SIGSTOP)
+	site.Timeout = 1500 * time.Millisecond
+	it.standStill()
 	if told := begun.Commit(); err != nil || told != error(InDoubt{begun.ID}) {
 		t.Error(err, told)
 	}
@@ -594,6 +619,19 @@ func TestNoWayIn(t *testing.T) {
 	}
 }
 
+// connected comes in by a door, which may be away for longer than Connect waits, on a busy machine.
+func connected(t *testing.T, path string) (site *Site) {
+	until(t, func() bool {
+		found, err := Connect(path)
+		if err != nil && !errors.Is(err, ErrDoor) {
+			t.Fatal(err)
+		}
+		site = found
+		return err == nil
+	})
+	return site
+}
+
 // TestSells is a process of its own, where TestTwoProcesses starts it: it sells so many, through stops of the door, and prints the
 // ids.
 func TestSells(t *testing.T) {
@@ -603,10 +641,7 @@ func TestSells(t *testing.T) {
 	}
 	told := tally{sold: map[string]bool{}}
 	for len(told.sold) < 3000 || len(told.doubt) > 0 {
-		site, err := Connect(path)
-		if err != nil {
-			t.Fatal(err)
-		}
+		site := connected(t, path)
 		doubt := told.doubt
 		told.doubt = nil
 		for _, id := range doubt {
@@ -655,7 +690,7 @@ func TestLatePlaces(t *testing.T) {
 	if err != nil {
 		t.Fatal(err)
 	}
-	site.Timeout = 500 * time.Millisecond
+	site.Timeout = inTime
 	hears := func(line string) {
 		t.Helper()
 		select {
@@ -663,7 +698,7 @@ func TestLatePlaces(t *testing.T) {
 			if told != line {
 				t.Errorf("%q, and not %q", told, line)
 			}
-		case <-time.After(20 * time.Second):
+		case <-time.After(time.Minute):
 			t.Errorf("nothing, and not %q", line)
 		}
 	}
@@ -679,11 +714,11 @@ func TestLatePlaces(t *testing.T) {
 	tell <- "door took 1 1.1\nleave -> left\n"
 	// It comes as the wait ends.
 	it := newCall([]string{"1 begin", "1 escrow # stock -1"})
-	site.lines.send("1 open stock -1", it)
+	site.lines.send(context.Background(), "1 open stock -1", it)
 	hears("1 open stock -1\n")
 	tell <- "door busy\ndoor place\n"
 	until(t, func() bool { return len(it.words) == 1 })
-	if site.lines.withdraw(it) || site.lines.rest(it, none).isTaken {
+	if site.lines.withdraw(it) || site.lines.rest(context.Background(), it, none).isTaken {
 		t.Error("it was taken")
 	}
 	hears("leave\n")
@@ -702,10 +737,7 @@ func (it *through) now(t *testing.T) *Site {
 	if it.site != nil && it.site.Up() {
 		return it.site
 	}
-	site, err := Connect(it.path)
-	if err != nil {
-		t.Fatal(err)
-	}
+	site := connected(t, it.path)
 	site.Timeout, it.site = 5*time.Second, site
 	return site
 }

@@ -7,11 +7,10 @@ package escrow
 
 import (
 	"bufio"
+	"context"
 	"errors"
 	"fmt"
-	"io"
 	"os"
-	"os/exec"
 	"path/filepath"
 	"regexp"
 	"strconv"
@@ -30,30 +29,49 @@ func (fault Refused) Error() string { return "escrow: " + fault.Reply }
 // it, over a new Site where this one has ended. Never ask for it again before; by a key, do, with the same one.
 type InDoubt struct{ ID string }
 
-func (fault InDoubt) Error() string { return "escrow: the answer is left out of " + fault.ID }
+func (fault InDoubt) Error() string {
+	if fault.ID == "" { // an answer was odd, over a program in between
+		return "escrow: it may have happened, and neither its answer nor its id came: look into the log before it is asked for again"
+	}
+	return "escrow: " + fault.ID + " may have happened, and its answer didn't come: ask Kept of it before it is asked for again"
+}
 
 // Lost is the error of a transaction whose commit a stop, or the end of its time, came before: it isn't committed, and never will be.
 // Ask anew.
 type Lost struct{ ID string }
 
-func (fault Lost) Error() string { return "escrow: it isn't committed, and never will be: " + fault.ID }
+func (fault Lost) Error() string {
+	return "escrow: " + fault.ID + " isn't committed, and never will be: ask anew"
+}
 
 // Ended is the error of a process that has ended, before it served or with another status than 0: 6, another one has the folder; 5,
 // the disk failed; 2 or 3, standard error tells what to do; -1, a signal ended it.
 type Ended struct{ Status int }
 
 func (fault Ended) Error() string {
-	return fmt.Sprintf("escrow: escrow_site has ended with status %d", fault.Status)
+	return fmt.Sprintf("escrow: escrow_site has ended with status %d: %s", fault.Status, fault.advice())
+}
+
+func (fault Ended) advice() string {
+	switch fault.Status {
+	case 2, 3, 5:
+		return "standard error tells why, and what to do"
+	case 6:
+		return "another process has the folder: start it again after a pause, or come in by the door of that one"
+	case -1:
+		return "a signal has ended it: start it again"
+	}
+	return "start it again, after a pause"
 }
 
 // ErrStopped is the error of what a stop came before: nothing was begun, and a question wasn't answered. Ask anew, over a new Site.
-var ErrStopped = errors.New("escrow: the process of the site, or the connection to its door, has ended")
+var ErrStopped = errors.New("escrow: the process of the site, or the connection to its door, has ended: ask anew, over a new Site")
 
 // ErrBusy is the error of what wasn't asked, or of a question that wasn't answered, as its time was up: nothing was begun. Ask anew.
-var ErrBusy = errors.New("escrow: its time was up before it was asked, or before an answer that changes nothing")
+var ErrBusy = errors.New("escrow: its time was up before it was asked, or before an answer that changes nothing: ask anew")
 
 // ErrOpen is the error of a question whether a transaction is kept that is open still: ask again later.
-var ErrOpen = errors.New("escrow: the transaction is open still")
+var ErrOpen = errors.New("escrow: the transaction is open still: ask again later")
 
 // ErrDoor is the error where there is no way in by a door, or it has ended the connection. errors.Is tells it.
 var ErrDoor = errors.New("escrow: no way in by this door")
@@ -72,16 +90,20 @@ var ErrID = errors.New("escrow: no id of a transaction of this site")
 var ErrForgotten = errors.New("escrow: the log has let go of what would tell: never ask for the same anew")
 
 // ErrNewer is the error where the program is newer than this client: use a client of its release. errors.Is tells it.
-var ErrNewer = errors.New("escrow: the program is newer than this client")
+var ErrNewer = errors.New("escrow: the program is newer than this client: use a client of its release")
 
 // Site is one process that serves a site, or one connection to a door that does, until End. Any goroutine may make any call.
 type Site struct {
-	// Timeout is the time of each call, and of End, which is by force then; 0: none. Set it before the first call. Over a process the
-	// writing itself has no time, where more is under way than its pipe holds (some 800 changes).
+	// Timeout is the time of each call, and of End, which is by force then; 0: none. Set it before the first call. A program that takes
+	// nothing for that time, or for a second where that is longer, is killed, where more is under way than its pipe holds (64 KiB, some
+	// 1,300 changes): then Up is false.
 	Timeout time.Duration
 
-	command *exec.Cmd // nil over a door
-	world   string    // the first digits of the world's name
+	isEnded atomic.Bool   // by End
+	isOver  chan struct{} // closed once nothing is left of it
+	command *process      // nil over a door
+	status  error         // of the process, once it is over
+	world   string        // the first digits of the world's name
 	number  string
 	// mayForget tells that its log was shortened, or may be.
 	mayForget bool
@@ -100,12 +122,27 @@ var numbers = regexp.MustCompile(`\A(?:0|[1-9]\d*)\.(?:0|[1-9]\d*)\z`)
 var id = regexp.MustCompile(`\A(?:([0-9a-f]{8})-(?:(0|[1-9]\d*)-)?)?(0|[1-9]\d*)\.(0|[1-9]\d*)\z`)
 
 // Start starts the program over this folder, and returns once it serves. Options are those of `serve`, word by word: "--keep", "1048576"
-// lets go of the front of the log while it serves. An error is Ended, of status 2 where there is no such option, or tells why nothing
-// was started.
+// lets go of the front of the log while it serves. A program that doesn't answer in ten seconds, and one more for each MiB of its log, is
+// killed. An error is Ended, of status 2 where there is no such option, or tells why nothing was started, or doesn't serve.
 func Start(program, folder string, options ...string) (*Site, error) {
+	return startWithin(startLimit(folder), program, folder, options)
+}
+
+// startLimit is how long it may take until the site of this folder serves: its log is read before.
+func startLimit(folder string) time.Duration {
+	limit := wait
+	if log, err := os.Stat(filepath.Join(folder, "log")); err == nil {
+		limit += time.Duration(log.Size()>>20) * time.Second
+	}
+	return limit
+}
+
+func startWithin(limit time.Duration, program, folder string, options []string) (*Site, error) {
 	whose, err := os.ReadFile(filepath.Join(folder, "site"))
-	if err != nil {
-		return nil, err
+	if errors.Is(err, os.ErrNotExist) {
+		return nil, fmt.Errorf("escrow: %w: make the folder by escrow_site create, once, or put it back", err)
+	} else if err != nil {
+		return nil, fmt.Errorf("escrow: %w", err)
 	}
 	named := world.FindSubmatch(whose)
 	if named == nil {
@@ -114,49 +151,61 @@ func Start(program, folder string, options ...string) (*Site, error) {
 	if strings.HasPrefix(folder, "-") { // no option
 		folder = "./" + folder
 	}
-	command := exec.Command(program, append([]string{"serve", folder}, options...)...)
-	command.Stderr = os.Stderr
-	pipe, inFault := command.StdinPipe()
-	out, outFault := command.StdoutPipe()
-	if inFault != nil || outFault != nil {
-		return nil, fmt.Errorf("escrow: no pipes: %v, %v", inFault, outFault)
+	command := newProcess(program, append([]string{"serve", folder}, options...))
+	pipe, out, err := command.start()
+	if err != nil {
+		return nil, fmt.Errorf("escrow: the program isn't started: %w", err)
 	}
-	if err := command.Start(); err != nil {
-		return nil, err
-	}
-	return greet(&Site{command: command, world: string(named[1])}, pipe, bufio.NewReader(out))
+	return greet(&Site{command: command, world: string(named[1])}, pipe, bufio.NewReader(out), limit)
 }
 
 // greet reads the ready line and that of the restart.
-func greet(site *Site, pipe io.WriteCloser, out *bufio.Reader) (*Site, error) {
+func greet(site *Site, pipe *os.File, out *bufio.Reader, limit time.Duration) (*Site, error) {
+	isInTime := site.command.killAfter(limit)
 	first, _ := out.ReadString('\n')
-	second, _ := out.ReadString('\n')
-	words := ready.FindStringSubmatch(first + second)
-	if words == nil {
+	second, end := out.ReadString('\n')
+	told, program := first+second, site.command.Path
+	words := ready.FindStringSubmatch(told)
+	if words == nil || !isInTime() {
 		pipe.Close()
-		io.Copy(io.Discard, out)
-		if err := ended(site.command.Wait()); err != nil {
-			return nil, err
+		status := site.command.halt(end != nil)
+		switch {
+		case !isInTime():
+			return nil, fmt.Errorf("escrow: %s doesn't answer: it didn't serve within %v, and was killed: see whether the program or the "+
+				"disk stands still, and start it again", program, limit)
+		case status != nil:
+			return nil, status
+		case told == "":
+			return nil, fmt.Errorf("escrow: %s has ended without a line: it isn't escrow_site: name that one", program)
 		}
-		return nil, otherVersion(first + second)
+		return nil, otherVersion(program, told)
 	}
 	epoch, _ := strconv.ParseUint(words[2], 10, 32)
-	site.number, site.mayForget, site.lines = words[3], words[1] == "2", newLines(epoch, pipe, nil, true)
-	go func() {
-		site.lines.read(out)
-		if site.lines.fault != nil {
-			site.command.Process.Kill() // nobody reads what it writes
-		}
-	}()
+	site.number, site.mayForget, site.lines = words[3], words[1] == "2", newLines(epoch, pipe)
+	site.lines.isDirect, site.lines.kill = true, site.command.kill
+	site.follow(out)
 	return site, nil
 }
 
+// follow has another goroutine read all that comes, and leave nothing behind it: no process, and no descriptor.
+func (site *Site) follow(in *bufio.Reader) {
+	site.isOver = make(chan struct{})
+	go func() {
+		defer close(site.isOver)
+		site.lines.read(in)
+		site.lines.to.Close() // the door's whole connection
+		if site.command != nil {
+			site.status = site.command.wait()
+		}
+	}()
+}
+
 // otherVersion is the error of first lines that this client doesn't know.
-func otherVersion(told string) error {
+func otherVersion(who, told string) error {
 	if newer.MatchString(told) {
-		return fmt.Errorf("%w: it began with %q", ErrNewer, told)
+		return fmt.Errorf("%w: %s began with %q", ErrNewer, who, told)
 	}
-	return fmt.Errorf("escrow: lines of another version: %q", told)
+	return fmt.Errorf("escrow: %s began with lines of another version than this client's, or of another program: %q", who, told)
 }
 
 // odd is the error of an answer that is neither of those that were due.
@@ -170,14 +219,10 @@ func odd(reply string) error {
 // Up tells whether the process, or the connection, hasn't ended yet, as far as is known.
 func (site *Site) Up() bool { return site.lines.isUp() }
 
-// timer tells when a call's time is up, and has its end given back.
-func (site *Site) timer() (<-chan time.Time, func()) {
-	if site.Timeout <= 0 {
-		return nil, func() {}
-	}
-	atomic.StoreInt64(&site.lines.limit, int64(site.Timeout))
-	it := time.NewTimer(site.Timeout)
-	return it.C, func() { it.Stop() }
+// timer is the time of a call that begins now.
+func (site *Site) timer() (context.Context, context.CancelFunc) {
+	site.lines.limit.Store(int64(site.Timeout))
+	return site.lines.timer()
 }
 
 func (site *Site) idOf(line string) string { return site.world + "-" + site.number + "-" + line }
@@ -210,8 +255,9 @@ func (told heard) refusal() error {
 	return nil
 }
 
-// Change makes a transaction of one change, below 0 to lower the field, in one trip, and returns its id. An error is Refused, InDoubt,
-// with the id, or Lost, ErrBusy or ErrStopped, where nothing was changed. A program that dies meanwhile doesn't know the id.
+// Change makes a transaction of one change, below 0 to lower the field, in one trip, and returns its id. What is to be sold has
+// to be below 0: refuse amounts below 1 first, as -(-3) adds 3. An error is Refused, InDoubt, with the id, or Lost, ErrBusy or
+// ErrStopped, where nothing was changed. A program that dies meanwhile doesn't know the id.
 func (site *Site) Change(name string, change int64) (string, error) {
 	if !site.lines.isSure() { // a program is in between: so that the id is always known
 		return site.begunAndCommitted(name, change, func(string) error { return nil })
@@ -219,11 +265,11 @@ func (site *Site) Change(name string, change int64) (string, error) {
 	if err := site.check(name); err != nil {
 		return "", err
 	}
-	timer, stop := site.timer()
-	defer stop()
+	ctx, cancel := site.timer()
+	defer cancel()
 	n := site.number
 	lines := []string{n + " begin", fmt.Sprintf("%s escrow # %s %d", n, name, change), n + " commit #"}
-	return site.changed(site.lines.ask(fmt.Sprintf("%s change %s %d", n, name, change), lines, timer))
+	return site.changed(site.lines.ask(ctx, fmt.Sprintf("%s change %s %d", n, name, change), lines))
 }
 
 func (site *Site) begunAndCommitted(name string, change int64, write func(id string) error) (string, error) {
@@ -253,9 +299,10 @@ func (site *Site) changed(told heard) (string, error) {
 	return "", InDoubt{site.idOf(told.id)}
 }
 
-// ChangeBefore is Change, with write called ahead of it: it writes the id into the program's own books. Of the last one in the books
-// ask Kept, at the next start. What write fails with is returned: nothing was changed, and the id never comes again. It asks this
-// site nothing; over a process others wait as long as it takes, and over a door it costs a trip.
+// ChangeBefore is Change, with write called ahead of it: it adds the id to the program's own books. At the next start ask Kept
+// of each id in them that they don't know as sold: of each goroutine one may have been under way. What write fails with is
+// returned: nothing was changed, and the id never comes again. It asks this site nothing; over a process others wait meanwhile,
+// within their Timeout, and over a door it costs a trip.
 func (site *Site) ChangeBefore(name string, change int64, write func(id string) error) (string, error) {
 	if site.lines.door != nil {
 		return site.begunAndCommitted(name, change, write)
@@ -265,16 +312,16 @@ func (site *Site) ChangeBefore(name string, change int64, write func(id string) 
 	}
 	var fault error
 	var panicked any
-	timer, stop := site.timer()
-	defer stop()
-	told, _ := site.lines.askProgram(1, func(_ uint64, line string) ([]string, error) {
+	ctx, cancel := site.timer()
+	defer cancel()
+	told, _ := site.lines.askProgram(ctx, 1, func(_ uint64, line string) ([]string, error) {
 		fault, panicked = written(write, site.idOf(line))
 		if fault != nil || panicked != nil {
 			return []string{site.number + " begin", site.number + " abort " + line}, nil // so that no other change has this id
 		}
 		escrow := fmt.Sprintf("%s escrow %s %s %d", site.number, line, name, change)
 		return []string{site.number + " begin", escrow, site.number + " commit " + line}, nil
-	}, timer)
+	})
 	if panicked != nil {
 		panic(panicked)
 	} else if fault != nil {
@@ -288,11 +335,13 @@ func written(write func(id string) error, id string) (fault error, panicked any)
 	return write(id), nil
 }
 
-// ChangeByKey is Change, in two trips, once for each key however often it is asked for: 1 to 64 of A-Z a-z 0-9 . _ -, as the number of an
-// order. The id is that of the commit that has the key, which may be an earlier one. So after any error but Refused ask for the
-// same again, with the same key. An error is ErrKey too, or ErrForgotten, where the log was shortened and may have let go of an earlier
-// one: then nothing is committed. By since a new key is told from such a one: what Position told, and the program's own books had beside
-// the order, before it was first asked for; "" where there is none.
+// ChangeByKey is Change, in two trips, once for each key however often it is asked for: 1 to 64 of A-Z a-z 0-9 . _ -, as the
+// number of an order. The id is that of the commit that has the key, which may be an earlier one, whatever this one asks for.
+// The key is of this site alone, as long as its log has it: another site, an older copy and a new world sell the order again. So
+// after any error but Refused ask for the same again, with the same key. Refused over a door is told, too, while another process
+// sells the same order: ask KeptKey again later. An error is ErrKey too, or ErrForgotten, where the log was shortened and may
+// have let go of an earlier one: then nothing is committed. By since a new key is told from such a one: what Position told, and
+// the program's own books had beside the order, before it was first asked for; "" where there is none.
 func (site *Site) ChangeByKey(name string, change int64, key, since string) (string, error) {
 	if _, err := site.keyLine(key, since, place{}); err != nil {
 		return "", err
@@ -340,8 +389,8 @@ func (site *Site) next() place {
 	if site.lines.door != nil {
 		return place{site.lines.epoch, 1 << 32}
 	}
-	site.lines.writing.Lock()
-	defer site.lines.writing.Unlock()
+	site.lines.mutex.Lock()
+	defer site.lines.mutex.Unlock()
 	return place{site.lines.epoch, site.lines.begun + 1}
 }
 
@@ -397,20 +446,20 @@ func (site *Site) Kept(of string) (bool, error) {
 	if site.lines.isOpen(line) {
 		return false, ErrOpen
 	}
-	timer, stop := site.timer()
-	defer stop()
+	ctx, cancel := site.timer()
+	defer cancel()
 	asked := []string{"kept " + line}
 	if site.lines.door != nil {
-		return site.kept(of, site.lines.ask(asked[0], asked, timer))
+		return site.kept(of, site.lines.ask(ctx, asked[0], asked))
 	}
-	told, err := site.lines.askProgram(0, func(begun uint64, _ string) ([]string, error) {
+	told, err := site.lines.askProgram(ctx, 0, func(begun uint64, _ string) ([]string, error) {
 		if at.epoch > site.lines.epoch {
 			return nil, errLater(of)
 		} else if at.epoch == site.lines.epoch && at.number > begun {
 			return nil, errUnbegun(of)
 		}
 		return asked, nil
-	}, timer)
+	})
 	if err != nil {
 		return false, err
 	}
@@ -516,9 +565,13 @@ func (site *Site) look(what, name, form string, numbers ...any) error {
 }
 
 func (site *Site) one(line string) (string, error) {
-	timer, stop := site.timer()
-	defer stop()
-	told := site.lines.ask(line, []string{line}, timer)
+	ctx, cancel := site.timer()
+	defer cancel()
+	return site.reply(ctx, line)
+}
+
+func (site *Site) reply(ctx context.Context, line string) (string, error) {
+	told := site.lines.ask(ctx, line, []string{line})
 	if len(told.replies) == 0 {
 		return "", told.unasked()
 	}
@@ -526,40 +579,26 @@ func (site *Site) one(line string) (string, error) {
 }
 
 // End closes the input, so that all is answered, and waits for the end. An error is Ended, where the status of the process isn't 0, or
-// ErrDoor, where the connection has ended before.
+// ErrDoor, where the connection has ended before. A Site that has ended by itself leaves nothing behind, also without it.
 func (site *Site) End() error {
 	isUp := site.Up()
-	if !site.lines.close() {
+	if site.isEnded.Swap(true) {
 		return ErrStopped
 	}
-	timer, stop := site.timer()
-	defer stop()
+	ctx, cancel := site.timer()
+	defer cancel()
+	site.lines.close(ctx)
 	select {
-	case <-site.lines.isRead:
-	case <-timer:
-		if site.lines.cut(); site.command != nil {
-			site.command.Process.Kill()
-		}
-		<-site.lines.isRead
+	case <-site.isOver:
+	case <-ctx.Done():
+		site.lines.stop()
+		<-site.isOver
 	}
-	if site.command == nil {
-		site.lines.door.Close()
-		if site.lines.fault == nil && !isUp {
-			return doorFault{"it is gone"}
-		}
+	switch {
+	case site.lines.fault != nil:
 		return site.lines.fault
+	case site.command == nil && !isUp:
+		return doorFault{"it has ended the connection: come in again"}
 	}
-	err := ended(site.command.Wait())
-	if site.lines.fault != nil {
-		return site.lines.fault
-	}
-	return err
-}
-
-func ended(err error) error {
-	var exit *exec.ExitError
-	if errors.As(err, &exit) {
-		return Ended{exit.ExitCode()}
-	}
-	return err
+	return site.status
 }

@@ -2,9 +2,12 @@ package escrow
 
 import (
 	"bufio"
+	"context"
+	"errors"
 	"fmt"
 	"io"
 	"net"
+	"os"
 	"strconv"
 	"strings"
 	"sync"
@@ -13,6 +16,9 @@ import (
 )
 
 const places = 63 // transactions that are open at most: a site has 64 places, and one is left for changes in one trip
+
+// leastWrite is the time that a write has at least, also where that of its call is shorter or up: who takes nothing for so long is ended.
+const leastWrite = time.Second
 
 // A call is lines whose answers one goroutine waits for. In them # stands for the id of the transaction that the first begins.
 type call struct {
@@ -26,7 +32,7 @@ type word struct{ what, text string }
 // heard is what came of a call.
 type heard struct {
 	id      string // of the transaction that it begins, as lines name it
-	isTaken bool   // whether it was asked: else it never is
+	isTaken bool   // whether it was asked, or a part of it: else it never is
 	isLate  bool
 	replies []string // fewer than its lines where a stop left them out, or its time was up
 }
@@ -36,31 +42,46 @@ type answer struct {
 	of   *call
 }
 
+// An output is the pipe to a process, or the connection to a door.
+type output interface {
+	io.WriteCloser
+	SetWriteDeadline(time.Time) error
+}
+
 // lines are those of a process, or of a connection to a door.
 type lines struct {
-	limit    int64 // of a write to a door, as a time.Duration. Only by sync/atomic
+	limit    atomic.Int64 // the time of each call, as a time.Duration; 0: none
 	epoch    uint64
 	door     *net.UnixConn // nil over a process
+	kill     func()        // ends the process; nil over a door
 	isDirect bool          // no program is between this one and the door. Only under the mutex
 	isRead   chan struct{} // closed at the end of what comes
 	fault    error         // why that was, once it is read
 	open     chan struct{} // the transactions of a process
 
-	writing  sync.Mutex // who holds it writes lines, and notes each, in the same order
-	to       io.WriteCloser
-	begun    uint64 // transactions of the process
-	isClosed bool
+	writing  chan struct{} // who has put one in writes lines, and notes each, in the same order
+	to       output
+	isClosed atomic.Bool // no more lines are written
 
 	mutex   sync.Mutex // the reader waits for it, so nobody writes who holds it
+	begun   uint64     // transactions of the process: only who writes lines changes it
 	untaken []*call    // the door hasn't told that it took them
 	pending []answer   // taken, and not answered
 	waiting []*call    // for these the door had no place
 	ids     map[string]bool
 }
 
-func newLines(epoch uint64, to io.WriteCloser, door *net.UnixConn, isDirect bool) *lines {
-	return &lines{epoch: epoch, to: to, door: door, isDirect: isDirect, isRead: make(chan struct{}),
-		open: make(chan struct{}, places), ids: map[string]bool{}}
+func newLines(epoch uint64, to output) *lines {
+	return &lines{epoch: epoch, to: to, isRead: make(chan struct{}), open: make(chan struct{}, places), writing: make(chan struct{}, 1),
+		ids: map[string]bool{}}
+}
+
+// timer is the time of a call that begins now.
+func (own *lines) timer() (context.Context, context.CancelFunc) {
+	if limit := time.Duration(own.limit.Load()); limit > 0 {
+		return context.WithTimeout(context.Background(), limit)
+	}
+	return context.Background(), func() {}
 }
 
 func (own *lines) isUp() bool {
@@ -80,20 +101,59 @@ func (own *lines) isSure() bool {
 
 func newCall(lines []string) *call { return &call{lines, make(chan word, len(lines)+3)} }
 
+// lock waits until this call alone writes lines: false where its time is up before.
+func (own *lines) lock(ctx context.Context) bool {
+	select {
+	case own.writing <- struct{}{}:
+		return true
+	default:
+	}
+	select {
+	case own.writing <- struct{}{}:
+		return true
+	case <-ctx.Done():
+		return false
+	}
+}
+
+func (own *lines) unlock() { <-own.writing }
+
+// mayWrite tells whether the other end takes lines still, as far as is known.
+func (own *lines) mayWrite() bool { return !own.isClosed.Load() && own.isUp() }
+
+// write writes whole lines, and tells how much of them was written. Where that isn't all nothing more is: who takes nothing for the
+// time of a call is ended by force, so that nothing is read behind a torn line.
+func (own *lines) write(ctx context.Context, text string) (many int, err error) {
+	end, isLimited := ctx.Deadline()
+	if least := time.Now().Add(leastWrite); isLimited && end.Before(least) {
+		end = least
+	}
+	own.to.SetWriteDeadline(end)
+	if many, err = io.WriteString(own.to, text); err != nil {
+		own.isClosed.Store(true)
+		if own.door != nil || isLate(err) { // a process that has ended is still to tell its status
+			own.stop()
+		}
+	}
+	return many, err
+}
+
+func isLate(err error) bool { return errors.Is(err, os.ErrDeadlineExceeded) }
+
 // ask asks these lines, which stand together. A door is told the one line toDoor in their place.
-func (own *lines) ask(toDoor string, lines []string, timer <-chan time.Time) heard {
+func (own *lines) ask(ctx context.Context, toDoor string, lines []string) heard {
 	if own.door != nil {
 		it := newCall(lines)
-		if !own.send(toDoor, it) {
-			return heard{}
+		if err := own.send(ctx, toDoor, it); err != nil {
+			return heard{isLate: err == ErrBusy}
 		}
-		return own.hear(it, heard{}, strings.Replace(toDoor, " open ", " enter ", 1), timer)
+		return own.hear(ctx, it, heard{}, strings.Replace(toDoor, " open ", " enter ", 1))
 	}
 	begins := uint64(0)
 	if strings.HasSuffix(lines[0], " begin") {
 		begins = 1
 	}
-	told, _ := own.askProgram(begins, func(_ uint64, id string) ([]string, error) { return named(lines, id), nil }, timer)
+	told, _ := own.askProgram(ctx, begins, func(_ uint64, id string) ([]string, error) { return named(lines, id), nil })
 	return told
 }
 
@@ -107,72 +167,89 @@ func named(lines []string, id string) []string {
 
 // askProgram asks the process lines that are made of the number and the id of the last transaction that begins with them. What make
 // fails with is returned: nothing was sent.
-func (own *lines) askProgram(begins uint64, make func(begun uint64, id string) ([]string, error), timer <-chan time.Time) (heard, error) {
-	id, it, err := own.writeProgram(begins, make)
-	if err != nil || it == nil {
-		return heard{}, err
+func (own *lines) askProgram(ctx context.Context, begins uint64, make func(begun uint64, id string) ([]string, error)) (heard, error) {
+	it, told, err := own.writeProgram(ctx, begins, make)
+	if err != nil || !told.isTaken {
+		return told, err
 	}
-	return own.hear(it, heard{id: id, isTaken: true}, "", timer), nil
+	return own.hear(ctx, it, told, ""), nil
 }
 
-func (own *lines) writeProgram(begins uint64, make func(begun uint64, id string) ([]string, error)) (string, *call, error) {
-	own.writing.Lock()
-	defer own.writing.Unlock()
-	if own.isClosed || !own.isUp() {
-		return "", nil, nil
+// writeProgram is askProgram, but for the answers.
+func (own *lines) writeProgram(ctx context.Context, begins uint64, make func(begun uint64, id string) ([]string, error)) (*call, heard, error) {
+	if !own.lock(ctx) {
+		return nil, heard{isLate: true}, nil
+	}
+	defer own.unlock()
+	if !own.mayWrite() {
+		return nil, heard{}, nil
 	}
 	id := fmt.Sprintf("%d.%d", own.epoch, own.begun+begins)
 	lines, err := make(own.begun+begins, id)
 	if err != nil {
-		return "", nil, err
+		return nil, heard{}, err
 	}
 	it := newCall(lines)
-	own.begun += begins
-	own.note(it, lines)
-	io.WriteString(own.to, strings.Join(lines, "\n")+"\n") // where it fails the output ends too
-	return id, it, nil
+	own.note(it, lines, begins)
+	if many, err := own.write(ctx, strings.Join(lines, "\n")+"\n"); err != nil && many == 0 {
+		return nil, heard{isLate: isLate(err)}, nil // and none has this id later: nothing more is written
+	}
+	return it, heard{id: id, isTaken: true}, nil
 }
 
-func (own *lines) note(it *call, lines []string) {
+func (own *lines) note(it *call, lines []string, begins uint64) {
 	own.mutex.Lock()
 	defer own.mutex.Unlock()
+	own.begun += begins
 	for _, line := range lines {
 		own.pending = append(own.pending, answer{line, it})
 	}
 }
 
-// send writes a line to the door: false where the connection has ended.
-func (own *lines) send(line string, it *call) bool {
-	own.writing.Lock()
-	defer own.writing.Unlock()
+// send writes a line to the door. An error is ErrStopped, where the connection has ended, or ErrBusy, where the time is up before.
+func (own *lines) send(ctx context.Context, line string, it *call) error {
+	if !own.lock(ctx) {
+		return ErrBusy
+	}
+	defer own.unlock()
+	if !own.mayWrite() {
+		return ErrStopped
+	}
 	own.mutex.Lock()
-	isUp := !own.isClosed && own.isUp()
-	if isUp {
-		own.untaken = append(own.untaken, it)
-	}
+	own.untaken = append(own.untaken, it)
 	own.mutex.Unlock()
-	if isUp {
-		if limit := atomic.LoadInt64(&own.limit); limit > 0 {
-			own.door.SetWriteDeadline(time.Now().Add(time.Duration(limit)))
-		}
-		if _, err := io.WriteString(own.to, line+"\n"); err != nil {
-			own.cut() // what the door has taken it has told
-		}
-	}
-	return isUp
+	own.write(ctx, line+"\n") // where it fails the connection ends, and what the door has taken it has told
+	return nil
 }
 
-// tell has a line asked whose answer nobody waits for.
-func (own *lines) tell(line string) {
+// tell has a line asked whose answer nobody waits for, and then calls behind: in a goroutine of its own where its time is up before.
+func (own *lines) tell(ctx context.Context, line string, behind func()) {
+	if !own.isTold(ctx, line) {
+		go func() {
+			later, cancel := own.timer()
+			defer cancel()
+			own.tell(later, line, behind)
+		}()
+		return
+	}
+	behind()
+}
+
+// isTold asks it: false where its time is up before, true where it never can be, too.
+func (own *lines) isTold(ctx context.Context, line string) bool {
 	if own.door != nil {
-		own.send(line, newCall([]string{line}))
-	} else {
-		own.writeProgram(0, func(uint64, string) ([]string, error) { return []string{line}, nil })
+		return own.send(ctx, line, newCall([]string{line})) != ErrBusy
 	}
+	_, told, _ := own.writeProgram(ctx, 0, func(uint64, string) ([]string, error) { return []string{line}, nil })
+	return !told.isLate
 }
 
-// hear has what came until the timer's time. What the door hasn't taken by then is called back, by the end of the connection.
-func (own *lines) hear(it *call, told heard, enter string, timer <-chan time.Time) heard {
+// leave gives back the place that the door has offered.
+func (own *lines) leave(ctx context.Context) { own.tell(ctx, "leave", func() {}) }
+
+// hear has what came until its time is up. What the door hasn't taken by then is called back, by the end of the connection.
+func (own *lines) hear(ctx context.Context, it *call, told heard, enter string) heard {
+	late := ctx.Done()
 	for len(told.replies) < len(it.lines) {
 		var next word
 		select { // what has come goes before the time
@@ -180,17 +257,22 @@ func (own *lines) hear(it *call, told heard, enter string, timer <-chan time.Tim
 		default:
 			select {
 			case next = <-it.words:
-			case <-timer:
+			case <-late:
 				told.isLate = true
-				if timer = nil; !own.withdraw(it) {
-					return own.rest(it, told)
+				if late = nil; !own.withdraw(it) {
+					return own.rest(ctx, it, told)
 				}
 				continue
 			case <-own.isRead:
-				return own.rest(it, told)
+				return own.rest(ctx, it, told)
 			}
 		}
-		if told.take(next); next.what == "place" && !own.send(enter, it) {
+		if told.take(next); next.what != "place" {
+			continue
+		}
+		if err := own.send(ctx, enter, it); err != nil {
+			told.isLate = err == ErrBusy
+			own.leave(ctx)
 			return told
 		}
 	}
@@ -198,12 +280,12 @@ func (own *lines) hear(it *call, told heard, enter string, timer <-chan time.Tim
 }
 
 // rest has what has come to a call, for which nobody waits any more.
-func (own *lines) rest(it *call, told heard) heard {
+func (own *lines) rest(ctx context.Context, it *call, told heard) heard {
 	for {
 		select {
 		case next := <-it.words:
 			if told.take(next); next.what == "place" {
-				own.tell("leave")
+				own.leave(ctx)
 			}
 		default:
 			return told
@@ -233,7 +315,7 @@ func (own *lines) withdraw(it *call) bool {
 	}
 	for _, other := range own.untaken {
 		if other == it {
-			own.cut()
+			own.stop()
 			return true
 		}
 	}
@@ -241,7 +323,7 @@ func (own *lines) withdraw(it *call) bool {
 }
 
 // takePlace waits for one of the places of a process; a door has its own.
-func (own *lines) takePlace(timer <-chan time.Time) error {
+func (own *lines) takePlace(ctx context.Context) error {
 	if own.door != nil {
 		return nil
 	}
@@ -253,7 +335,7 @@ func (own *lines) takePlace(timer <-chan time.Time) error {
 	select {
 	case own.open <- struct{}{}:
 		return nil
-	case <-timer:
+	case <-ctx.Done():
 		return ErrBusy
 	case <-own.isRead:
 		return ErrStopped
@@ -283,7 +365,9 @@ func (own *lines) read(in *bufio.Reader) {
 	if _, isDoors := own.fault.(doorFault); own.door != nil && own.fault != nil && !isDoors {
 		own.isDirect = false // what the door took may be unread
 	}
-	own.cut()
+	if own.door != nil || own.fault != nil { // nobody reads what it writes
+		own.stop()
+	}
 }
 
 func (own *lines) take(line string) error {
@@ -350,7 +434,11 @@ func (own *lines) takeWord(line string, words []string) error {
 		own.waiting[0].words <- word{what: "place"}
 		own.waiting = own.waiting[1:]
 	case len(words) == 1 && words[0] == "place":
-		go own.tell("leave") // the reader itself never waits to write
+		go func() { // the reader itself never waits to write
+			ctx, cancel := own.timer()
+			defer cancel()
+			own.leave(ctx)
+		}()
 	case words[0] == "end":
 		return doorFault{strings.Join(words[1:], " ")}
 	default:
@@ -359,28 +447,29 @@ func (own *lines) takeWord(line string, words []string) error {
 	return nil
 }
 
-// cut ends the connection: what the door hasn't taken by now it never takes.
-func (own *lines) cut() {
-	if own.door != nil {
-		own.door.CloseRead()
-		own.door.CloseWrite()
+// stop ends the process, or the connection, by force: what the door hasn't taken by now it never takes.
+func (own *lines) stop() {
+	if own.door == nil {
+		own.kill()
+		return
 	}
+	own.door.CloseRead()
+	own.door.CloseWrite()
 }
 
-// close has no more lines written: the other end answers what there is, and ends. False: it was closed before.
-func (own *lines) close() bool {
-	own.writing.Lock()
-	defer own.writing.Unlock()
-	if own.isClosed {
-		return false
+// close has no more lines written: the other end answers what there is, and ends. Where the time is up before what is being written is, it
+// is left to stop.
+func (own *lines) close(ctx context.Context) {
+	own.isClosed.Store(true)
+	if !own.lock(ctx) {
+		return
 	}
-	own.isClosed = true
+	defer own.unlock()
 	if own.door != nil {
 		own.door.CloseWrite()
 	} else {
 		own.to.Close()
 	}
-	return true
 }
 
 // isOpen tells whether lines name an open transaction of this process so.

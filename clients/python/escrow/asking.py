@@ -4,8 +4,13 @@ may change something."""
 
 from __future__ import annotations
 
+import asyncio
+import concurrent.futures
+import contextvars
 import logging
+import threading
 import time
+from collections.abc import Callable
 from typing import Optional, TypeVar, cast
 
 from .calls import Call, Kept
@@ -31,7 +36,7 @@ def ask(pipeline: Pipeline, call: Call[T], end: float = NEVER) -> T:
     if end != NEVER and end <= time.monotonic():
         raise pipeline.decline(call)
     waiter = ThreadWaiter()
-    call.waiter = waiter
+    call.answer, call.waiter = None, waiter
     pipeline.submit((call,))
     pipeline.flush()
     pipeline.reading.want()
@@ -41,6 +46,25 @@ def ask(pipeline: Pipeline, call: Call[T], end: float = NEVER) -> T:
         if fault is not None:
             raise fault
     return cast(T, waiter.wait())
+
+
+async def in_thread(act: Callable[[], T]) -> T:
+    """Has this done by a thread of its own, for a task. Those of the task's loop may all be taken: by others, for longer than a
+    time limit, or by what waits for the site that this is to close."""
+    done: concurrent.futures.Future[T] = concurrent.futures.Future()
+    done.set_running_or_notify_cancel()  # it is done, also where nobody waits any more
+    context = contextvars.copy_context()
+
+    def acts() -> None:
+        try:
+            told = context.run(act)
+        except BaseException as fault:
+            done.set_exception(fault)
+        else:
+            done.set_result(told)
+
+    threading.Thread(target=acts, name="escrow task", daemon=True).start()
+    return await asyncio.wrap_future(done)
 
 
 def is_kept(pipeline: Pipeline, id: str, seconds: float) -> bool:

@@ -63,7 +63,10 @@ class NoWay(Exception):
 
 def find_way(path: str, goes_on: Callable[[], bool]) -> Way:
     """Comes in by this door. Raises `NoWay`, also where it isn't to go on: that is asked a few times a second."""
-    peer = socket.socket(socket.AF_UNIX, socket.SOCK_STREAM)
+    try:
+        peer = socket.socket(socket.AF_UNIX, socket.SOCK_STREAM)
+    except OSError as fault:  # no descriptor is free
+        raise NoWay(f"{path}: {fault.strerror}") from fault
     try:
         peer.settimeout(LOOK)
         try:

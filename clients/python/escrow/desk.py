@@ -89,12 +89,15 @@ class Desk:
 
     def forget(self, call: Call[Any]) -> None:
         """Its task is cancelled: it isn't asked, where it wasn't yet. What ends a transaction, or belongs to one that is
-        open, is."""
-        if not call.bound:
-            is_here = call in self.gathered
-            if is_here:
-                self.gathered.remove(call)
-            self._pipeline.forget(call, is_here)
+        open, is: it waits for no answers more, since the loop may end before they come."""
+        is_here = call in self.gathered
+        if call.bound:
+            self._held = self._held and not is_here
+            self.loop.call_soon(self.send)
+            return
+        if is_here:
+            self.gathered.remove(call)
+        self._pipeline.forget(call, is_here)
 
     def wake(self, calls: Sequence[Awaited]) -> None:
         """Wakes the tasks of these calls, and has go out what they ask then."""

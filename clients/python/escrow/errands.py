@@ -72,8 +72,9 @@ class Errands:
     def _notify(self) -> None:
         self._some.notify()
         if self._thread is None and not self._closing:
-            self._thread = threading.Thread(target=self._run, name=self._name, daemon=True)
-            self._thread.start()
+            thread = threading.Thread(target=self._run, name=self._name, daemon=True)
+            thread.start()  # where there is none to be had the next one who asks tries again
+            self._thread = thread
 
     def close(self, seconds: float) -> None:
         """Does what is left to do at once, leaves what is for later, and ends: it is waited for so many seconds."""

@@ -241,6 +241,8 @@ class Pipeline:
         with self.lock:
             if self.unqueue(call):
                 return self._declined(call)
+            if call.answer is not None:  # it was told just now, and hears of it in a moment
+                return None
             return self._doubted(call)
 
     def _doubted(self, call: Call[Any]) -> Optional[EscrowError]:
@@ -571,10 +573,14 @@ class Pipeline:
         self.flush()
 
     def finish(self) -> None:
-        """Ends the input of a process that is to take no more, where all that was asked is written."""
-        with self._writing, self.lock:
-            if not self._out and not self.up:
-                self._close()
+        """Ends the input of a process that is to take no more, where all that was asked is written. Who has asked and found this
+        one at the pipe has left it the lines."""
+        with self._writing:
+            if self._out and not self._full.is_set():
+                self._write()
+            with self.lock:
+                if not self._out and not self.up:
+                    self._close()
 
     def _close(self) -> None:
         to, self._to = self._to, -1
@@ -598,12 +604,18 @@ class Pipeline:
             self._pending.clear()
             self._done = self._asked
             self._waiting.clear()
+            self._close_all()
             self.counts.stops += 1
             self.counts.interrupted += len(interrupted)
             for call in interrupted:
                 self._place_again(call)
             for call in waiting:
                 self._place(call)
+
+    def _close_all(self) -> None:
+        """Its transactions have ended with the process."""
+        self.open = 0
+        self.open_ids.clear()
 
     def _place_again(self, call: Call[Any]) -> None:
         if call.again and call.waiter is not None:

@@ -20,6 +20,8 @@ AT_ONCE = 1 << 16
 """How many bytes of answers one read takes: as many as a pipe holds."""
 CALM = 4
 """Behind so many reads that had answers for the tasks of one loop alone that loop reads."""
+LOOK = 1000
+"""Each so many milliseconds the thread looks whether the loop that reads still runs: one that has ended tells nobody."""
 
 
 def some_of(back: int) -> bytes:
@@ -34,7 +36,8 @@ class Reading:
     """Whose turn it is to read. A loop that reads its own answers saves two changes of thread for each read.
 
     The thread lends the reading to a loop while nobody else waits for an answer, takes it back as soon as anybody else
-    asks, so that nobody waits for the loop's other work, and has it again where the process ends.
+    asks, so that nobody waits for the loop's other work, and has it again where the process ends, or where the loop has
+    ended, whose answers nobody would read before somebody else asks.
     """
 
     def __init__(self, pipeline: Pipeline) -> None:
@@ -94,20 +97,24 @@ class Reading:
 
     def _lend(self, back: int) -> None:
         """Lends the reading, where nobody else waits, and returns once it is back: because somebody else asks, or the
-        process has ended. Raises what the loop found."""
+        process or the loop has ended. Raises what the loop found."""
         self._calm = 0
         desk = self._last
         assert type(desk) is Desk
         with self._pipeline.lock:
             if not self._pipeline.waits_for(desk):
                 return
-            turn = self.turn = Turn(self, self._pipeline, desk, back)
+            try:
+                turn = self.turn = Turn(self, self._pipeline, desk, back)
+            except OSError:  # no descriptor is free for it
+                return
         try:
             turn.desk.loop.call_soon_threadsafe(turn.begin)
             poll = select.poll()
             poll.register(back, 0)  # tells its end alone
             poll.register(self._heard, select.POLLIN)
-            poll.poll()
+            while not poll.poll(LOOK) and desk.loop.is_running():
+                pass
         except RuntimeError:  # the loop is closed
             pass
         with self.lock:
@@ -136,10 +143,10 @@ class Turn:
         self._back = io.FileIO(os.dup(back))  # the loop looks at it until it has heard that its turn is over
 
     def begin(self) -> None:
-        """Begins to read, where the loop can. In the loop."""
+        """Begins to read, where the loop can, and has room for what it watches. In the loop."""
         try:
             self.desk.loop.add_reader(self._back.fileno(), self._read)
-        except NotImplementedError:
+        except (NotImplementedError, OSError):
             self.desk.can_read = False
             self._reading.take_back()
 

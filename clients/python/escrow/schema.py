@@ -67,6 +67,8 @@ def identity(folder: str) -> Identity:
         return Identity(int(told["number "]), told["world "], Schema.parse(lines[len(words)]))
     except FileNotFoundError as fault:
         raise Down(f"{path}: isn't there: look whether its disk is: a site's folder is made by create, once", 3) from fault
+    except NotADirectoryError as fault:
+        raise Down(f"{path}: isn't in a folder: name the one that create made, not a file in it", 3) from fault
     except OSError as fault:
         raise unreadable(path, fault) from fault
     except (ValueError, KeyError, IndexError, TypeError) as fault:

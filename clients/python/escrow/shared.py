@@ -245,6 +245,7 @@ class SharedPipeline(Pipeline):
             for those in (self._pending, self._untaken, self._waiting):
                 those.clear()
             self._done = self._asked
+            self._close_all()
             self.counts.stops += 1
             self.counts.interrupted += len(taken)
             for call in taken:
@@ -255,6 +256,8 @@ class SharedPipeline(Pipeline):
             for call in untaken:
                 if self._is_direct:
                     self._ask_anew(call, call in late)
+                elif call in late:
+                    self.fail(call, call.doubt(self.front))
                 else:
                     self._leave_in_doubt(call)
             for call in waiting:

@@ -14,7 +14,7 @@ from functools import partial
 from types import MethodType
 from typing import Any, NoReturn, Optional, Union
 
-from .asking import ask, ask_behind_stop, async_ask_behind_stop, async_kept, end_of, id_of, is_kept, kept
+from .asking import ask, ask_behind_stop, async_ask_behind_stop, async_kept, end_of, id_of, in_thread, is_kept, kept
 from .calls import Change, Kept, Line, Position, Shape
 from .connector import Connector
 from .desk import NEVER, Ask, Desks
@@ -593,7 +593,7 @@ class AsyncSite:
 
     async def close(self, seconds: float = 10.0) -> None:
         """As `Site.close`, in a thread: also of a site that was given."""
-        await asyncio.to_thread(self.site.close, seconds)
+        await in_thread(partial(self.site.close, seconds))
 
     def transaction(self, seconds: Optional[float] = None, *, timeout: Optional[float] = None) -> AsyncTransaction:
         """As `Site.transaction`, for `async with`."""
@@ -666,19 +666,19 @@ class AsyncSite:
 
     async def give(self, to: int, field: str, kind: Kind, amount: int, *, timeout: Optional[float] = None) -> Statement:
         """As `Site.give`, in a thread."""
-        return await asyncio.to_thread(self.site.give, to, field, kind, amount, timeout=self._own(timeout))
+        return await in_thread(partial(self.site.give, to, field, kind, amount, timeout=self._own(timeout)))
 
     async def spare(self, to: int, field: str, kind: Kind, amount: int, *, timeout: Optional[float] = None) -> Spared:
         """As `Site.spare`, in a thread."""
-        return await asyncio.to_thread(self.site.spare, to, field, kind, amount, timeout=self._own(timeout))
+        return await in_thread(partial(self.site.spare, to, field, kind, amount, timeout=self._own(timeout)))
 
     async def restate(self, to: int, field: str, kind: Kind, *, timeout: Optional[float] = None) -> Statement:
         """As `Site.restate`, in a thread."""
-        return await asyncio.to_thread(self.site.restate, to, field, kind, timeout=self._own(timeout))
+        return await in_thread(partial(self.site.restate, to, field, kind, timeout=self._own(timeout)))
 
     async def tighten(self, field: str, kind: Kind, amount: int, *, timeout: Optional[float] = None) -> int:
         """As `Site.tighten`, in a thread."""
-        return await asyncio.to_thread(self.site.tighten, field, kind, amount, timeout=self._own(timeout))
+        return await in_thread(partial(self.site.tighten, field, kind, amount, timeout=self._own(timeout)))
 
     async def accept(self, statement: Statement, *, timeout: Optional[float] = None) -> int:
         """As `Site.accept`."""
@@ -698,7 +698,7 @@ class AsyncSite:
 
     async def newest_mark(self, *, timeout: Optional[float] = None) -> Mark:
         """As `Site.newest_mark`, in a thread."""
-        return await asyncio.to_thread(self.site.newest_mark, timeout=self._own(timeout))
+        return await in_thread(partial(self.site.newest_mark, timeout=self._own(timeout)))
 
     async def outcome(self, id: str, *, timeout: Optional[float] = None) -> Outcome:
         """As `Site.outcome`."""

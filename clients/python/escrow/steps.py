@@ -16,7 +16,7 @@ from typing import Generic, NamedTuple, Optional, TypeVar
 from .asking import ask, unknown
 from .calls import Line
 from .desk import NEVER
-from .errors import Busy, Down, Interrupted, NothingGiven, ProgramError, Unknown
+from .errors import Busy, Down, EscrowError, Interrupted, NothingGiven, ProgramError, Unknown
 from .pipeline import Pipeline
 from .program import show
 from .values import Command, Kind, Share, Spared, Statement
@@ -51,17 +51,18 @@ class Totals(Generic[K]):
 
     @contextlib.contextmanager
     def hold(self, key: K, end: float) -> Iterator[None]:
-        """Keeps others from a step of this total: waits for whoever takes one. A step that is in doubt may be taken yet, so
-        the total isn't known behind it. Raises `Busy` where it isn't free by this end."""
+        """Keeps others from a step of this total: waits for whoever takes one. A step that is in doubt may be taken yet, and one
+        that nobody has heard of, so the total isn't known behind it. Raises `Busy` where it isn't free by this end."""
         with self._lock:
             held = self._held.setdefault(key, threading.Lock())
         if not held.acquire(timeout=_seconds_to(end)):
             raise Busy("another step of this total isn't done in time: nothing was begun")
         try:
             yield
-        except Unknown:
-            self._known.pop(key, None)
-            self._doubted.add(key)
+        except BaseException as fault:
+            if isinstance(fault, Unknown) or not isinstance(fault, EscrowError):  # its thread was interrupted
+                self._known.pop(key, None)
+                self._doubted.add(key)
             raise
         finally:
             held.release()

@@ -2,6 +2,7 @@
 
 from __future__ import annotations
 
+import errno
 import logging
 import os
 import re
@@ -33,6 +34,8 @@ HOPELESS = (2, 3, DISK)
 """Statuses behind which it isn't started again: 2 and 3 would come again. 5 is a fault of the disk: until it is mended, what the
 system shows of the log may not be on the disk. Where the disk is full it is none: what is written stays, and is synced by the
 next start."""
+SCARCE = (errno.EMFILE, errno.ENFILE, errno.ENOMEM, errno.EAGAIN)
+"""Descriptors, memory or processes that aren't to be had: there may be some again soon."""
 FULL = ": the disk is full: make room on it: the site starts again by itself once 64 KiB can be written in its folder"
 LOOK = 0.5
 """Seconds between two looks for calls that have waited too long, where a start takes long, and for room on the disk."""
@@ -181,10 +184,17 @@ class Supervisor:
         try:
             process = self._start()
         except OSError as fault:
-            self.last_status, self.last_error = 2, f"{self._orders.command[0]}: {fault.strerror}"
+            self.last_status = None if fault.errno in SCARCE else 2
+            self.last_error = f"{self._orders.command[0]}: {fault.strerror}"
             return False
         assert process.stdin and process.stdout and process.stderr
-        complaints = Complaints(process.stderr, log)
+        try:
+            complaints = Complaints(process.stderr, log)
+        except RuntimeError as fault:  # no thread is to be had
+            with process:
+                _kill_all(process)
+            self.last_status, self.last_error = None, str(fault)
+            return False
         self._process, why, got_on = process, "", False
         try:
             if self._stands(process.stdin, process.stdout):
@@ -193,6 +203,10 @@ class Supervisor:
                 got_on = self._pipeline.counts.answers > answers or time.monotonic() - began > A_WHILE
         except Faulty as faulty:
             why = str(faulty)
+        except OSError as fault:
+            if fault.errno not in SCARCE:
+                raise
+            why = str(fault.strerror)
         finally:
             self._end(process, complaints, why)
         return got_on

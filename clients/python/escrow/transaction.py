@@ -12,7 +12,7 @@ from .asking import ask, async_kept, async_kept_with, end_of, id_of, kept, kept_
 from .calls import Abort, Call, Commit, First, GiveBack, Later, Run
 from .desk import Ask
 from .errands import Entry, Errands
-from .errors import Busy, Cause, Down, Interrupted, Lost, Over, Refused, Unknown, gone, over
+from .errors import Busy, Cause, Down, EscrowError, Interrupted, Lost, Over, Refused, Unknown, gone, over
 from .keys import ANOTHER, CallerKey, KeptKey, KeyedCommit
 from .numbers import amount_of, change_of
 from .pipeline import Pipeline
@@ -255,11 +255,15 @@ class Transaction(BaseTransaction):
         self._set_aside(field, change, end_of(timeout, self._timeout))
 
     def _set_aside(self, field: str, change: int, end: float) -> None:
+        call = self._escrow(self._pipeline.known(field), change_of(change))
+        self._granted += 1  # also where who asks is cancelled meanwhile, or interrupted, and not told
         try:
-            ask(self._pipeline, self._escrow(self._pipeline.known(field), change_of(change)), end)
-        except Interrupted:
-            raise self._gone() from None
-        self._granted += 1
+            ask(self._pipeline, call, end)
+        except EscrowError as fault:
+            self._granted -= 1
+            if type(fault) is Interrupted:
+                raise self._gone() from None
+            raise
 
     def commit(self, *, key: Optional[str] = None, since: Optional[str] = None, timeout: Optional[float] = None) -> str:
         """Makes the changes permanent: the id.
@@ -411,11 +415,15 @@ class AsyncTransaction(BaseTransaction):
         await self._set_aside(field, change, end_of(timeout, self._timeout))
 
     async def _set_aside(self, field: str, change: int, end: float) -> None:
+        call = self._escrow(self._pipeline.known(field), change_of(change))
+        self._granted += 1  # also where who asks is cancelled meanwhile, or interrupted, and not told
         try:
-            await self._ask(self._escrow(self._pipeline.known(field), change_of(change)), end)
-        except Interrupted:
-            raise self._gone() from None
-        self._granted += 1
+            await self._ask(call, end)
+        except EscrowError as fault:
+            self._granted -= 1
+            if type(fault) is Interrupted:
+                raise self._gone() from None
+            raise
 
     async def commit(
         self, *, key: Optional[str] = None, since: Optional[str] = None, timeout: Optional[float] = None

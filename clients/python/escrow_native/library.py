@@ -12,13 +12,15 @@ import escrow_programs
 
 TEXT = 256
 """The most bytes of an entry's text."""
+CLOSED = 2
+"""The status of a handle to no site."""
 UNTOLD = 11
 """The status of a line that was carried out, and whose answer is lost."""
 
 STATUS = (
-    "done", "out of memory", "the site is closed", "the site is open already", "the header tells no schema",
-    "the schema has no such site", "a line of the log is no record of this site", "no line", "no command",
-    "a command of another site", "no room", "carried out, and not told", "the site is down", "no such field",
+    "done", "out of memory", "the site is closed: open it anew", "the site is open already", "the header tells no schema",
+    "the schema has no such site", "a line of the log is no record of this site: put its own newest log back", "no line",
+    "no command", "a command of another site", "no room", "carried out, and not told", "the site is down", "no such field",
     "the log has fewer bytes",
 )  # fmt: skip
 

@@ -26,8 +26,9 @@ from escrow import (
     Spared,
     Statement,
 )
+from escrow.numbers import amount_of, change_of, site_of
 
-from .library import STATUS, TEXT, UNTOLD, Answer, Ask, Handle, load
+from .library import CLOSED, STATUS, TEXT, UNTOLD, Answer, Ask, Handle, load
 
 PathLike = Union[str, "os.PathLike[str]"]
 BEGIN, ESCROW, COMMIT, ABORT, GIVE, RESTATE, SPARE, TIGHTEN, ACCEPT, READ, SHARE, RESTART = range(1, 13)
@@ -44,12 +45,16 @@ _TELLING = (Refusal.SHORT, Refusal.LEDGER_FULL, Refusal.FORGED)
 class Fault(EscrowError):
     """A call that did nothing, with the status of include/escrow.h; `line` is the first bad one of a log."""
 
-    def __init__(self, status: int, line: int = 0) -> None:
+    def __init__(self, status: int, line: int = 0, told: str = "") -> None:
         self.status = status
         self.line = line
-        super().__init__(STATUS[status] + (f" (line {line})" if line else ""))
+        super().__init__(told or STATUS[status] + (f" (line {line})" if line else ""))
 
 
+FORKED = "a fork of the process that opened the site doesn't have it: open a site of its own in it"
+"""Why nothing is asked there: both would sell the same rights."""
+SERVED = "another process has this log open, or another site of this one"
+"""Why a log isn't opened."""
 LOST = (
     "no log is here. At a site's first start, and never again, escrow_native.create(path) makes it. Else put its newest log "
     "back: a site over a new log has its first rights again, and sells what was sold"
@@ -79,15 +84,15 @@ class Transaction:
 
     def lower(self, field: str, amount: int) -> None:
         """Sets so many quantities aside, to be taken off the field."""
-        self.change(field, -amount)
+        self.change(field, -amount_of(amount))
 
     def raise_(self, field: str, amount: int) -> None:
         """Sets so many quantities aside, to be added to the field."""
-        self.change(field, amount)
+        self.change(field, amount_of(amount))
 
     def change(self, field: str, change: int) -> None:
         """Sets a change of the field aside: below 0 to lower it, above 0 to raise it."""
-        self._site._ask(ESCROW, epoch=self._epoch, number=self._number, field=field, change=change)
+        self._site._ask(ESCROW, epoch=self._epoch, number=self._number, field=field, change=change_of(change))
 
     def commit(self) -> None:
         """Makes the changes permanent: they are in the file, and synced, when this returns."""
@@ -99,7 +104,8 @@ class Transaction:
 
 
 class Site:
-    """One site over one file, for the threads of this process: a lock stands between their calls."""
+    """One site over one file, for the threads of this process: a lock stands between their calls. A fork of it doesn't have the
+    site."""
 
     def __init__(self, schema: PathLike, number: int, path: PathLike, *, sync: bool = True) -> None:
         """Opens the site of this number over its log, which `create` has made once, and restarts it.
@@ -109,13 +115,14 @@ class Site:
         sell again what was sold. `Fault` where it isn't opened; `BlockingIOError` where another process has the file.
         """
         header = _header(schema)
-        self._number, self._names = number, [it["name"] for it in json.loads(header)["fields"]]
-        self._sync, self._lock, self._library = sync, threading.Lock(), load()
+        self._number, self._names = site_of(number), [it["name"] for it in json.loads(header)["fields"]]
+        self._sync, self._lock, self._library = sync, threading.RLock(), load()
+        self._process = os.getpid()
         self._handle, self._ask_in, self._answer = Handle(), Ask(), Answer()
         self._copied, self._room = ctypes.c_size_t(), ctypes.create_string_buffer(1 << 16)
         self._file = _opened(path)
         try:
-            fcntl.flock(self._file, fcntl.LOCK_EX | fcntl.LOCK_NB)
+            _lock(self._file, path)
             self._had = self._open(header)
             os.ftruncate(self._file, self._had)
             os.lseek(self._file, self._had, os.SEEK_SET)
@@ -173,10 +180,18 @@ class Site:
         self._done(status)
         self._keep()
 
+    @contextmanager
+    def _alone(self) -> Iterator[None]:
+        """One call at a time, and none in a fork: whoever held the lock isn't there."""
+        if os.getpid() != self._process:
+            raise Fault(CLOSED, told=FORKED)
+        with self._lock:
+            yield
+
     def _ask(self, kind: int, field: str = "", **numbers: int) -> Answer:
         ask = Ask(kind=kind, field=self._field(field), **numbers)
         answer = Answer()
-        with self._lock:
+        with self._alone():
             self._answered(self._library.escrow_site_ask(self._handle, ask, answer))
         if answer.kind == REFUSED:
             raise self._refusal(ask, answer, field)
@@ -205,7 +220,7 @@ class Site:
     def tell(self, line: str) -> str:
         """Asks what a line spells, and answers the text of the entry; `Fault` where it spells nothing."""
         asked, text, length = line.encode(), ctypes.create_string_buffer(TEXT), ctypes.c_size_t()
-        with self._lock:
+        with self._alone():
             told = ctypes.byref(length)
             self._answered(self._library.escrow_site_tell(self._handle, asked, len(asked), text, TEXT, told))
         return text.raw[: length.value].decode()
@@ -247,31 +262,39 @@ class Site:
 
     def give(self, to: int, field: str, kind: Kind, amount: int) -> Statement:
         """Gives free rights to another site: carry the statement there."""
-        answer = self._ask(GIVE, field, to=to, right=_RIGHTS.index(kind), amount=amount)
+        answer = self._ask(GIVE, field, to=site_of(to), right=_RIGHTS.index(kind), amount=amount_of(amount))
         return self._statement(to, field, kind, answer.first)
 
     def spare(self, to: int, field: str, kind: Kind, want: int) -> Spared:
         """Gives as many as are wanted, and at most half of the share, rounded up."""
-        answer = self._ask(SPARE, field, to=to, right=_RIGHTS.index(kind), amount=want)
+        answer = self._ask(SPARE, field, to=site_of(to), right=_RIGHTS.index(kind), amount=amount_of(want))
         return Spared(answer.first, self._statement(to, field, kind, answer.second))
 
     def restate(self, to: int, field: str, kind: Kind) -> Statement:
         """The statement of all that was given."""
-        answer = self._ask(RESTATE, field, to=to, right=_RIGHTS.index(kind))
+        answer = self._ask(RESTATE, field, to=site_of(to), right=_RIGHTS.index(kind))
         return self._statement(to, field, kind, answer.first)
 
     def accept(self, told: Statement) -> int:
         """Accepts a statement of another site: how many rights became free by it."""
-        numbers = {"from_": told.giver, "to": told.to, "right": _RIGHTS.index(told.kind), "amount": told.total}
-        return int(self._ask(ACCEPT, told.field, **numbers).first)
+        sites = {"from_": site_of(told.giver), "to": site_of(told.to)}
+        return int(self._ask(ACCEPT, told.field, right=_RIGHTS.index(told.kind), amount=amount_of(told.total), **sites).first)
 
     def tighten(self, field: str, kind: Kind, amount: int) -> int:
         """Gives rights up for good: all that was given up so far of the kind on the field."""
-        return int(self._ask(TIGHTEN, field, right=_RIGHTS.index(kind), amount=amount).first)
+        return int(self._ask(TIGHTEN, field, right=_RIGHTS.index(kind), amount=amount_of(amount)).first)
 
     def close(self) -> None:
-        """Closes the site and its file. A second time it does nothing."""
-        self._library.escrow_site_close(self._handle)
+        """Closes the site and its file, behind the calls that are under way. A second time it does nothing. In a fork it closes
+        the fork's descriptor alone."""
+        if os.getpid() != self._process:
+            self._close_file()
+            return
+        with self._lock:
+            self._library.escrow_site_close(self._handle)
+            self._close_file()
+
+    def _close_file(self) -> None:
         file, self._file = self._file, -1
         if file >= 0:
             os.close(file)
@@ -294,6 +317,14 @@ def _opened(path: PathLike) -> int:
         return os.open(path, os.O_RDWR | os.O_CLOEXEC)
     except FileNotFoundError:
         raise FileNotFoundError(errno.ENOENT, LOST, os.fspath(path)) from None
+
+
+def _lock(file: int, path: PathLike) -> None:
+    """Locks the file of a log, as long as it is open."""
+    try:
+        fcntl.flock(file, fcntl.LOCK_EX | fcntl.LOCK_NB)
+    except BlockingIOError:
+        raise BlockingIOError(errno.EWOULDBLOCK, SERVED, os.fspath(path)) from None
 
 
 def _whole(file: int) -> bytes:

@@ -7,6 +7,7 @@ import tempfile
 import threading
 import time
 import unittest
+from collections.abc import Callable
 
 import escrow
 
@@ -66,6 +67,73 @@ class SiteTests(unittest.TestCase):
             with self.assertRaises(escrow.Refused) as refused:
                 site.read("seats")
             self.assertEqual(refused.exception.number, escrow.Refusal.NO_FIELD)
+
+    def test_a_number_that_has_no_room_is_no_other_number(self) -> None:
+        for number in (-1, 65536):
+            self.assertRaises(ValueError, Site, WORLD, number, self.log)
+        with Site(WORLD, 0, self.log) as site, site.transaction() as t:
+            for change in (2**64 - 7, 2**63, -2**63 - 1):
+                self.assertRaises(ValueError, t.change, "stock", change)
+            for amount in (-1, 2**64):
+                self.assertRaises(ValueError, t.lower, "stock", amount)
+                self.assertRaises(ValueError, t.raise_, "stock", amount)
+                self.assertRaises(ValueError, site.give, 1, "stock", escrow.Kind.LOWER, amount)
+                self.assertRaises(ValueError, site.spare, 1, "stock", escrow.Kind.LOWER, amount)
+                self.assertRaises(ValueError, site.tighten, "stock", escrow.Kind.LOWER, amount)
+            self.assertRaises(ValueError, site.give, 65537, "stock", escrow.Kind.LOWER, 1)
+            self.assertRaises(ValueError, site.restate, 65537, "stock", escrow.Kind.LOWER)
+            self.assertRaises(ValueError, site.accept, escrow.Statement(65537, 0, "stock", escrow.Kind.LOWER, 1))
+        self.assertEqual(self.bytes_of_log(), b"R 1\n")
+
+    def test_a_fork_does_not_have_the_site(self) -> None:
+        """Both would sell the same: nothing is asked there, and what it closes is its own descriptor."""
+        with Site(WORLD, 0, self.log) as site:
+            with site._lock:                                # as where another thread asks while it is forked
+                child = os.fork()
+                if child == 0:
+                    os._exit(self.asked_in_a_fork(site))
+            self.assertEqual(os.waitstatus_to_exitcode(os.waitpid(child, 0)[1]), 7)
+            site.change("stock", -1)
+            self.assertRaises(BlockingIOError, Site, WORLD, 0, self.log)
+        self.assertEqual(self.bytes_of_log(), b"R 1\nC 1 1 0 -1\n")
+
+    @staticmethod
+    def asked_in_a_fork(site: Site) -> int:
+        refused = 0
+        calls: tuple[Callable[[], object], ...] = (
+            lambda: site.change("stock", -1), lambda: site.tell("0 read stock"), lambda: site.read("stock"),
+        )  # fmt: skip
+        for call in calls:
+            try:
+                call()
+            except Fault as fault:
+                refused += "fork" in str(fault)
+        site.close()
+        return refused + 4
+
+    def test_who_closes_waits_for_the_calls(self) -> None:
+        """All that the log has was told, whenever another thread closes the site."""
+        for number in range(20):
+            told: list[str] = []
+            log = self.new_log(f"closed{number}.log")
+            site = Site(WIDE, 0, log, sync=False)
+
+            def sell() -> None:
+                try:
+                    while True:
+                        told.append(site.change("stock", -1))
+                except Fault as fault:
+                    self.assertEqual(str(fault), "the site is closed: open it anew")
+
+            threads = [threading.Thread(target=sell) for _ in range(4)]
+            for thread in threads:
+                thread.start()
+            time.sleep(0.005)
+            site.close()
+            for thread in threads:
+                thread.join()
+            with open(log, encoding="ascii") as file:
+                self.assertEqual(len([line for line in file if line.startswith("C")]), len(told))
 
     def test_rights_go_from_site_to_site(self) -> None:
         with Site(WORLD, 0, self.log) as one, Site(WORLD, 1, self.new_log("shop1.log")) as other:

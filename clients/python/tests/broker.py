@@ -80,7 +80,8 @@ class Broker:
         with open(os.path.join(self._folder, "mosquitto.log"), "ab") as log:
             words = [PROGRAM, "-c", self._config]
             self._process = subprocess.Popen(words, stdout=log, stderr=log, stdin=subprocess.DEVNULL)
-        for _ in range(500):
+        end = time.monotonic() + 60
+        while time.monotonic() < end:
             with socket.socket() as it:
                 if it.connect_ex(("127.0.0.1", self.port)) == 0:
                     return
@@ -99,7 +100,7 @@ class Broker:
         if self._process is not None:
             self._process.send_signal(how)
             try:
-                self._process.wait(5)
+                self._process.wait(60)
             except subprocess.TimeoutExpired:
                 self._process.kill()
                 self._process.wait()

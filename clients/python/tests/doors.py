@@ -2,6 +2,7 @@
 
 from __future__ import annotations
 
+import contextlib
 import os
 import signal
 import socket
@@ -10,7 +11,7 @@ import sys
 import threading
 from typing import Any, Optional
 
-from programs import PACKAGES, SiteTest, escrow_site, wait_until
+from programs import LONG, PACKAGES, SiteTest, escrow_site, stand_still, wait_until
 import escrow
 
 PUSHER = os.path.join(os.path.dirname(os.path.abspath(__file__)), "pusher.py")
@@ -48,8 +49,7 @@ class Door:
 
     def stand_still(self) -> None:
         """It does nothing from now on, until it goes on."""
-        self.process.send_signal(signal.SIGSTOP)
-        wait_until(lambda: state_of(self.process.pid) == "T")
+        stand_still(self.process.pid)
 
     def go_on(self) -> None:
         """Behind `stand_still`."""
@@ -60,18 +60,12 @@ class Door:
         if self.process.poll() is None:
             self.go_on()
             self.process.terminate()
-        return self.process.wait(20)
+        return self.process.wait(LONG)
 
     def text(self) -> str:
         """What it told on standard error."""
         with open(self.told, encoding="utf-8") as file:
             return file.read()
-
-
-def state_of(pid: int) -> str:
-    """The state of a process, as `ps` has it."""
-    with open(f"/proc/{pid}/stat", encoding="ascii", errors="replace") as file:
-        return file.read().rsplit(")", 1)[1].split()[0]
 
 
 def children_of(pid: int) -> list[int]:
@@ -80,12 +74,25 @@ def children_of(pid: int) -> list[int]:
         return [int(word) for word in file.read().split()]
 
 
+def kill_child(door: Door) -> None:
+    """Kills the process of its site, once there is one: it may end by itself, or be fetched by the door, at any moment."""
+
+    def kills() -> bool:
+        for child in children_of(door.process.pid)[:1]:
+            with contextlib.suppress(ProcessLookupError):
+                os.kill(child, signal.SIGKILL)
+                return True
+        return False
+
+    wait_until(kills)
+
+
 class Hand:
     """A connection by hand: lines go out, and answers come."""
 
     def __init__(self, path: str) -> None:
         self.peer = socket.socket(socket.AF_UNIX)
-        self.peer.settimeout(10)
+        self.peer.settimeout(LONG)
         self.peer.connect(path)
         self._rest = b""
         self.hello = [self.line() for _ in range(5)]
@@ -136,7 +143,7 @@ class DoorTest(SiteTest):
 
     def connected(self, door: Door, **options: Any) -> escrow.Site:
         """A client of it, until the test ends."""
-        site = escrow.Site.connect(door.path, **{"timeout": 20.0, **options})
+        site = escrow.Site.connect(door.path, **{"timeout": LONG, "wait": LONG, **options})
         self.addCleanup(site.close)
         return site
 
@@ -150,17 +157,30 @@ class DoorTest(SiteTest):
 class Pusher:
     """A process of its own that sells through a door, by so many tasks: `pusher.py`."""
 
-    def __init__(self, path: str, tasks: int, how: str = "change", timeout: float = 20.0) -> None:
+    def __init__(self, path: str, tasks: int, how: str = "change", timeout: float = LONG) -> None:
         words = [sys.executable, "-S", PUSHER, path, str(tasks), how, str(timeout)]
         self.process = subprocess.Popen(words, stdin=subprocess.PIPE, stdout=subprocess.PIPE, text=True)
         self.is_there = False
+        self._lines: list[str] = []
+        self._hears = threading.Thread(target=self._hear, daemon=True)
 
     def begin(self) -> Pusher:
         """Returns once it has come in."""
         assert self.process.stdout
         self.is_there = self.process.stdout.readline().startswith("stands ")
         assert self.is_there
+        self._hears.start()
         return self
+
+    def _hear(self) -> None:
+        assert self.process.stdout
+        for line in self.process.stdout:
+            if line.endswith("\n"):
+                self._lines.append(line[:-1])
+
+    def has_told(self, word: str) -> bool:
+        """Whether it has told so of one by now."""
+        return any(line.startswith(f"{word} ") for line in tuple(self._lines))
 
     def end(self) -> dict[str, set[str]]:
         """Has it end: the ids by what it told of them."""
@@ -175,8 +195,11 @@ class Pusher:
         """The ids by what it told of them, by its end. Fails where one was told twice."""
         assert self.process.stdin and self.process.stdout
         self.process.stdin.close()
+        if self._hears.ident is None:  # it wasn't waited for
+            self._hears.start()
+        self._hears.join()
         told: dict[str, set[str]] = {}
-        for line in self.process.stdout.read().split("\n")[:-1]:
+        for line in self._lines:
             word, _, id = line.partition(" ")
             assert id not in told.setdefault(word, set()), line
             told[word].add(id)

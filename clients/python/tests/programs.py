@@ -25,6 +25,9 @@ import escrow  # noqa: E402
 
 WORLD = "test"
 """The name of the tests' worlds."""
+LONG = float(os.environ.get("ESCROW_LONG", "120"))
+"""So many seconds a test waits at most for what is sure to come: a busy machine takes its time. Fewer where a mistake is made, for
+which it may not come."""
 Act = Callable[[], object]
 Changes = tuple[tuple[str, int], ...]
 """Fields and changes, in the order in which they were set aside."""
@@ -89,7 +92,7 @@ class SiteTest(unittest.TestCase):
 
     def served(self, folder: str, **options: object) -> escrow.Site:
         """The site of this folder, served until the test ends."""
-        site = escrow.Site(folder, program=escrow_site(), **options)  # type: ignore[arg-type]
+        site = escrow.Site(folder, program=escrow_site(), **{"wait": LONG, **options})  # type: ignore[arg-type]
         self.addCleanup(site.close)
         return site
 
@@ -108,7 +111,7 @@ class SiteTest(unittest.TestCase):
                 told.append(fault)
 
         thread = threading.Thread(target=takes)
-        os.kill(pid_of(site), signal.SIGSTOP)
+        stand_still(pid_of(site))
         thread.start()
         wait_until(lambda: site.unanswered == 1)
         stop()
@@ -135,7 +138,7 @@ class Gate:
             file.write(GATED.format(sign=self._sign, real=escrow_site()))
         os.chmod(program, 0o755)
         self.open()
-        self.site = escrow.Site(test.folder(), program=program, **options)  # type: ignore[arg-type]
+        self.site = escrow.Site(test.folder(), program=program, **{"wait": LONG, **options})  # type: ignore[arg-type]
         test.addCleanup(self.site.close)
 
     def open(self) -> None:
@@ -212,8 +215,16 @@ class Killer:
 
     def _run(self) -> None:
         while self.killed < self._kills:
+            if self._random.random() < 0.5:  # where a start takes longer than the pauses, it would never stand
+                self._wait_for_start()
             time.sleep(self._random.uniform(0.2, 1.8) * self._pause)
             self.killed += kill(self._site)
+
+    def _wait_for_start(self) -> None:
+        """Waits until the site stands, unless nobody starts it any more."""
+        end = time.monotonic() + LONG
+        while not self._site.up and self._site.pipeline.dead is None and time.monotonic() < end:
+            time.sleep(0.002)
 
 
 def pid_of(site: escrow.Site) -> int:
@@ -235,7 +246,7 @@ def kill(site: escrow.Site) -> bool:
     return True
 
 
-def wait_until(holds: Callable[[], object], seconds: float = 20.0) -> None:
+def wait_until(holds: Callable[[], object], seconds: float = LONG) -> None:
     """Waits until this holds. Fails where it doesn't in time."""
     end = time.monotonic() + seconds
     while not holds():
@@ -243,10 +254,21 @@ def wait_until(holds: Callable[[], object], seconds: float = 20.0) -> None:
         time.sleep(0.005)
 
 
+def state_of(pid: int) -> str:
+    """The state of a process, as `ps` has it."""
+    with open(f"/proc/{pid}/stat", encoding="ascii", errors="replace") as file:
+        return file.read().rsplit(")", 1)[1].split()[0]
+
+
+def stand_still(pid: int) -> None:
+    """Has a process do nothing from now on: returns once it stands still."""
+    os.kill(pid, signal.SIGSTOP)
+    wait_until(lambda: state_of(pid) == "T")
+
+
 def is_ended(pid: int) -> bool:
     """Whether a process has ended."""
     try:
-        with open(f"/proc/{pid}/stat", encoding="ascii", errors="replace") as file:
-            return file.read().rsplit(")", 1)[1].split()[0] == "Z"
+        return state_of(pid) == "Z"
     except OSError:
         return True

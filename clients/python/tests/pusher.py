@@ -74,7 +74,7 @@ async def main() -> None:
     path, tasks, how, timeout = sys.argv[1], int(sys.argv[2]), sys.argv[3], float(sys.argv[4])
     end = asyncio.Event()
     backoff = escrow.Backoff(0.01, 0.1)
-    async with escrow.AsyncSite.connect(path, timeout=timeout, patience=60.0, backoff=backoff, wait=30.0) as shop:
+    async with escrow.AsyncSite.connect(path, timeout=timeout, patience=60.0, backoff=backoff, wait=60.0) as shop:
         tell("stands", str(os.getpid()))
         asyncio.get_running_loop().add_reader(0, end.set)
         await asyncio.gather(*(sells(shop, how, end, os.getpid() * 100 + seed) for seed in range(tasks)))

@@ -42,7 +42,7 @@ class Relay:
     def _join(self, near: socket.socket) -> None:
         self._open.wait()
         try:
-            far = socket.create_connection(("127.0.0.1", self._target), 5)
+            far = socket.create_connection(("127.0.0.1", self._target), 60)
         except OSError:
             near.close()
             return

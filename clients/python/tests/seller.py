@@ -32,7 +32,7 @@ def tell(word: str, what: str) -> None:
 
 def main() -> None:
     """Serves the folder, and sells in several threads."""
-    site = escrow.Site(sys.argv[1], program=sys.argv[2])
+    site = escrow.Site(sys.argv[1], program=sys.argv[2], wait=60.0)
     tell("stands", str(site.pid))
     threads = [threading.Thread(target=sell, args=(site,), daemon=True) for _ in range(THREADS)]
     for thread in threads:

@@ -51,7 +51,7 @@ def serve(folder: str, *lines: str, trace: bool = True) -> list[str]:
     """What the site answers to these lines, behind the two of its start; it has stopped then."""
     options = ["--trace"] if trace else []
     done = subprocess.run([PROGRAM, "serve", folder, *options], input="".join(f"{line}\n" for line in lines), text=True,
-                          stdout=subprocess.PIPE, check=True, timeout=30)
+                          stdout=subprocess.PIPE, check=True, timeout=120)
     return done.stdout.split("\n")[2:-1]
 
 
@@ -63,7 +63,7 @@ def create(at: str, header: str = HEADER, sites: int = 3) -> list[str]:
     folders = [os.path.join(at, f"shop{number}") for number in range(sites)]
     for number, folder in enumerate(folders):
         words = [PROGRAM, "create", folder, "--schema", schema, "--site", str(number), "--name", "board"]
-        subprocess.run(words, check=True, timeout=30)
+        subprocess.run(words, check=True, timeout=120)
     return folders
 
 
@@ -117,7 +117,7 @@ class InBrowser(unittest.TestCase):
             done = subprocess.run(
                 [str(BROWSER), "--headless", "--no-sandbox", "--disable-gpu", "--disable-dev-shm-usage", "--no-first-run",
                  f"--user-data-dir={self.at}/browser", f"--virtual-time-budget={milliseconds}", "--dump-dom", server.url],
-                stdout=subprocess.PIPE, stderr=subprocess.DEVNULL, text=True, timeout=120, check=True)
+                stdout=subprocess.PIPE, stderr=subprocess.DEVNULL, text=True, timeout=300, check=True)
         finally:
             server.shutdown()
             thread.join()
@@ -174,7 +174,7 @@ class InBrowser(unittest.TestCase):
             site.stdin.flush()
             answers = [site.stdout.readline() for _ in range(6)]
             sections = self.open(Board(PROGRAM, folders[1:])).sections
-            site.communicate(timeout=30)
+            site.communicate(timeout=120)
         self.assertEqual(answers[5], "1 give 0 stock raise 1 -> given 1\n")
         self.whole(sections["stock"], "18 to 80 of 0 to 100", "|1|18 to 86|18|14", "|2|13 to 80|13|20", "|Nothing.")
         self.whole(sections["folders"], f"|1|{folders[1]}|\u25cf served|1|", "|no trace",
@@ -243,7 +243,7 @@ class OverFolders(unittest.TestCase):
         for folder, lines in zip(self.folders, LINES):
             serve(folder, *lines)
         serve(self.folders[1], "1 tighten stock lower 3", "1 tighten stock raise 2", "1 tighten seats lower 1")
-        done = subprocess.run([PROGRAM, "check", *self.folders], stdout=subprocess.PIPE, text=True, check=True, timeout=30)
+        done = subprocess.run([PROGRAM, "check", *self.folders], stdout=subprocess.PIPE, text=True, check=True, timeout=120)
         fields = self.told(*self.folders)["fields"]
         self.assertEqual(done.stdout.split("\n")[2:-1], [
             f'field {it["name"]} value {it["value"]} floor {it["floor"]} ceiling {it["ceiling"]}' for it in fields])
@@ -318,7 +318,7 @@ class OverFolders(unittest.TestCase):
         shutil.copytree(self.folders[0], self.at + "/copy")
         with open(self.folders[2] + "/log", "a", encoding="ascii") as file:
             file.write("nonsense\n")
-        shown = subprocess.run([PROGRAM, "show", self.folders[2]], capture_output=True, text=True, check=False, timeout=30)
+        shown = subprocess.run([PROGRAM, "show", self.folders[2]], capture_output=True, text=True, check=False, timeout=120)
         self.assertEqual(shown.returncode, 3)
         self.assertIn(f"{self.folders[2]}/log: ", shown.stderr)
         told = self.told(self.folders[0], self.at + "/none", *other, self.at + "/copy", self.folders[2])
@@ -394,7 +394,7 @@ class OverFolders(unittest.TestCase):
             assert site.stdin and site.stdout
             site.stdout.readline()
             self.assertIs(state_of(self.folders[0]), State.SERVED)
-            site.communicate(timeout=30)
+            site.communicate(timeout=120)
         self.assertIs(state_of(self.folders[0]), State.STOPPED)
 
 
@@ -462,7 +462,7 @@ class OverHttp(unittest.TestCase):
 
     def asked(self, port: int, method: str, path: str, host: str | None = None) -> tuple[int, bytes]:
         """The status and the body of an answer."""
-        line = http.client.HTTPConnection("127.0.0.1", port, timeout=30)
+        line = http.client.HTTPConnection("127.0.0.1", port, timeout=120)
         try:
             line.request(method, path, headers={"Host": host or f"127.0.0.1:{port}"})
             answer = line.getresponse()
@@ -489,7 +489,7 @@ class OverHttp(unittest.TestCase):
                 self.assertEqual(self.asked(port, "POST", "/")[0], 501)
                 self.assertEqual(self.asked(port, "GET", "/world.json", "shop.example:80")[0], 403)
                 with self.run_board(*self.folders, "--program", PROGRAM, "--port", str(port)) as second:
-                    self.assertIn("in use", second.communicate(timeout=30)[1])
+                    self.assertIn("in use", second.communicate(timeout=120)[1])
                 self.assertEqual(second.returncode, 1)
             finally:
                 board.terminate()
@@ -501,7 +501,7 @@ class OverHttp(unittest.TestCase):
         serve(self.folders[1], "1 accept 0 1 stock lower 4")
         copied = [self.at + "/copy", *self.folders[1:]]
         runs = [self.run_board(*folders, "--once") for folders in (self.folders, copied, self.folders[1:])]
-        whole, old, less = (json.loads(run.communicate(timeout=60)[0]) for run in runs)
+        whole, old, less = (json.loads(run.communicate(timeout=120)[0]) for run in runs)
         self.assertEqual([run.returncode for run in runs], [0, 3, 3])
         self.assertEqual([(it["from"], it["to"], it["rights"]) for it in whole["fields"][0]["flights"]], [(0, 1, 1)])
         self.assertEqual([len(told["alarms"]) for told in (whole, old, less)], [0, 1, 0])
@@ -514,17 +514,17 @@ class OverHttp(unittest.TestCase):
             os.close(read)
             with self.run_board(*folders, "--once", stdout=write) as board:
                 os.close(write)
-                self.assertEqual((board.communicate(timeout=60)[1], board.returncode), ("", status))
+                self.assertEqual((board.communicate(timeout=120)[1], board.returncode), ("", status))
         with open("/dev/full", "wb") as full, self.run_board(*self.folders, "--once", stdout=full.fileno()) as board:
             told = "escrow_board: standard output: No space left on device\n"
-            self.assertEqual((board.communicate(timeout=60)[1], board.returncode), (told, 1))
+            self.assertEqual((board.communicate(timeout=120)[1], board.returncode), (told, 1))
 
     def test_faults_of_the_command_line(self) -> None:
         """No folder, no such program, and a time or a port that is none, end with status 2."""
         words: list[list[str]] = [[], ["shop0", "--program", "/none"], ["shop0", "--program", PROGRAM, "--every", "0"],
                                   ["shop0", "--program", PROGRAM, "--port", "65536"]]
         for board in [self.run_board(*arguments) for arguments in words]:
-            self.assertIn("escrow_board: error: ", board.communicate(timeout=60)[1])
+            self.assertIn("escrow_board: error: ", board.communicate(timeout=120)[1])
             self.assertEqual(board.returncode, 2)
 
 

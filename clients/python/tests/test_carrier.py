@@ -166,7 +166,7 @@ class FolderTest(unittest.TestCase):
             self.assertEqual(sorted(os.listdir(f"{path}/w/0/given/1/stock")), ["lower"])
 
     def await_heard(self, heard: list[tuple[str, bytes]], wanted: list[tuple[str, bytes]]) -> None:
-        end = time.monotonic() + 5
+        end = time.monotonic() + 60
         while len(heard) < len(wanted) and time.monotonic() < end:
             time.sleep(0.01)
         time.sleep(0.05)

@@ -4,12 +4,13 @@ from __future__ import annotations
 import shutil
 import socket
 import tempfile
+import threading
 import time
 import unittest
 from typing import Any, Optional
 
 from broker import MISSING, Broker, Login
-from test_carrier_sites import Sites
+from test_carrier_sites import PATIENCE, Sites
 
 from escrow import Kind
 from escrow_carrier import Policy, Topics, last_mark
@@ -19,7 +20,7 @@ if not MISSING:
 
     from escrow_carrier import Carrier, Mqtt
 
-PATIENT = Policy(quiet=3_600.0, patience=5.0)
+PATIENT = Policy(quiet=3_600.0, patience=PATIENCE)
 
 
 @unittest.skipIf(MISSING, MISSING)
@@ -67,13 +68,14 @@ class BrokerTest(Sites):
     def test_the_end_tells_the_mark_behind_all_else(self) -> None:
         broker, site = self.broker(), self.sites[0]
         carrier = self.carrier(0, PATIENT, 3_600.0, Mqtt(port=broker.port), wait=0.2)
-        self.await_it(lambda: carrier.medium.is_connected)
+        self.await_it(lambda: carrier.counts.connects == 1)
+        time.sleep(0.2)                                 # the medium had time to bring a mark that it keeps
         broker.pause(0.5)
         for _ in range(24):                             # more than are on their way at once
             site.give(1, "stock", Kind.RAISE, 1)
         mark = site.newest_mark()
         carrier.close()
-        self.assertEqual(last_mark(site.folder, Mqtt(port=broker.port)), mark)
+        self.assertEqual(last_mark(site.folder, Mqtt(port=broker.port), 60.0), mark)
 
     @unittest.skipUnless(shutil.which("openssl"), "openssl isn't installed")
     def test_over_tls(self) -> None:
@@ -102,9 +104,10 @@ class BrokerTest(Sites):
         broker = self.broker(logins)
         carriers = self.over(broker, logins)
         forged = f"{self.top}/1/given/0/stock/lower"
-        for user, word in (("site2", "word2"), ("site1", "guessed"), (None, None)):
-            self.publish(broker.port, user, word, forged, "9")
-        self.publish(broker.port, "site1", "word1", f"{self.top}/1/given/2/stock/lower", "1000000000000000000")
+        self.publish(broker.port, "site2", "word2", forged, "9", 60.0)
+        for user, word in (("site1", "guessed"), (None, None)):
+            self.publish(broker.port, user, word, forged, "9", 1.0)
+        self.publish(broker.port, "site1", "word1", f"{self.top}/1/given/2/stock/lower", "1000000000000000000", 60.0)
         self.await_it(lambda: carriers[2].counts.forged >= 1)
         self.assertEqual((self.lower(), carriers[0].counts.accepted), ([10, 10, 10], 0))
         carriers[0].change("stock", -10)
@@ -120,17 +123,19 @@ class BrokerTest(Sites):
         self.assertEqual((stranger.last_refusal, stranger.is_connected), ("Connection Refused: not authorised.", False))
         stranger.close()
 
-    def publish(self, port: int, user: Optional[str], word: Optional[str], topic: str, payload: str) -> None:
-        """Tells the broker something, in the name of somebody."""
+    def publish(self, port: int, user: Optional[str], word: Optional[str], topic: str, payload: str, seconds: float) -> None:
+        """Tells the broker something, in the name of somebody: until it has that, or for so many seconds where it lets nobody in."""
         client: Any = paho.Client("else") if not hasattr(paho, "CallbackAPIVersion") else paho.Client(
             paho.CallbackAPIVersion.VERSION2, "else")
         if user is not None:
             client.username_pw_set(user, word)
         client.connect("127.0.0.1", port)
+        has_it = threading.Event()
+        client.on_publish = lambda *_: has_it.set()
         client.loop_start()
         time.sleep(0.5)
-        client.publish(topic, payload, 1, True)
-        time.sleep(0.5)
+        client.publish(topic, payload, 1, True)         # it is kept until the connection stands
+        self.assertEqual(has_it.wait(seconds), seconds > 1.0)
         client.disconnect()
         client.loop_stop()
 

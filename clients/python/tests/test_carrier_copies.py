@@ -16,11 +16,11 @@ from typing import Optional
 from unittest.mock import patch
 
 from broker import MISSING, Broker
-from programs import PACKAGES, commits, escrow_site, records, wait_until
+from programs import LONG, PACKAGES, commits, escrow_site, records, wait_until
 from relay import Relay
 from test_carrier_sites import CALM, NEVER, SHOPS, Sites
 
-from escrow import Down, Kind, Mark, Site
+from escrow import Down, Kind, Mark, Site, show
 from escrow_carrier import Carrier, Folder, Medium, last_mark
 from escrow_carrier.marks import marks_of
 
@@ -57,8 +57,8 @@ class Copied(Sites):
         """Why the site can't be carried for; nothing is sold then."""
         site = self.sites[0]
         sold = commits(self.shop, SHOPS)
-        with self.assertRaises(Down) as refused:
-            Carrier(site, medium, CALM, 0.1, **more)    # type: ignore[arg-type]
+        with self.assertRaises(Down) as refused:        # as soon as the mark comes
+            Carrier(site, medium, CALM, 0.1, **{"wait": LONG, **more})    # type: ignore[arg-type]
         with self.assertRaises(Down) as down:
             site.change("stock", -1)
         self.assertEqual((refused.exception.status, down.exception.status), (3, 3))
@@ -103,6 +103,7 @@ class Played(Copied):
         site.change("stock", -3)
         self.take_copy()                                # epoch 1, a start and a sale
         carrier = self.carrier(0, CALM, 0.1, self.medium())
+        wait_until(lambda: last_mark(self.shop, self.medium()))     # the medium had time to bring one that it keeps
         site.change("stock", -3)
         carrier.close()
         site.close()
@@ -114,7 +115,7 @@ class Played(Copied):
         self.assertEqual(why[:len(wanted)], wanted)
         self.put_back(f"{self.copy}.other")
         site = self.serve()
-        carrier = self.carrier(0, CALM, 0.1, self.medium())
+        carrier = self.carrier(0, CALM, 0.1, self.medium(), wait=LONG)
         self.assertEqual(carrier.found_mark, Mark(1, START + 2 * SALE))
         site.change("stock", -3)
         self.assertEqual((site.share("stock").lower, carrier.last_fault), (1, None))
@@ -125,13 +126,15 @@ class Played(Copied):
         shop = self.shop_process()
         self.take_copy()
         self.await_sales(shop, 60)                      # some ten looks of its carrier
+        older = show(self.copy, escrow_site()).mark
+        wait_until(lambda: (last_mark(self.shop, self.medium()) or older) > older)
         shop.kill()
         shop.wait()
         self.await_end()
         sold = commits(self.copy, SHOPS)
         self.put_back(self.copy)
         again = self.shop_process()
-        out, _ = again.communicate(timeout=30)
+        out, _ = again.communicate(timeout=120)
         self.assertEqual((again.returncode, out.count("sold")), (3, 0), out)
         self.assertRegex(out, "^refused .*: older than its mark, epoch 2, .*: put the newest log back")
         self.assertEqual(commits(self.shop, SHOPS), sold)
@@ -185,7 +188,7 @@ class BrokerCopiesTest(Played):
 
     def told(self) -> Optional[Mark]:
         """What the broker has."""
-        return last_mark(self.shop, self.medium())
+        return last_mark(self.shop, self.medium(), 5.0)
 
     def sold_behind_a_copy(self) -> Mark:
         """Takes a copy, sells, tells, and puts the copy back: the mark of the newer log."""
@@ -193,7 +196,8 @@ class BrokerCopiesTest(Played):
         site.change("stock", -3)
         self.take_copy()
         carrier = self.carrier(0, CALM, NEVER, self.medium())
-        wait_until(lambda: carrier.medium.is_connected)
+        wait_until(lambda: carrier.counts.connects)
+        time.sleep(carrier._wait)                       # the medium had time to bring a mark that it keeps
         site.change("stock", -3)
         mark = site.newest_mark()
         carrier.close()
@@ -234,8 +238,8 @@ class BrokerCopiesTest(Played):
         self.sites[0].close()
         self.serve()
         began = time.monotonic()
-        second = self.carrier(0, CALM, NEVER, self.medium(), wait=20.0)
-        self.assertLess(time.monotonic() - began, 10)
+        second = self.carrier(0, CALM, NEVER, self.medium(), wait=2 * LONG)
+        self.assertLess(time.monotonic() - began, LONG)
         self.assertEqual(second.found_mark, Mark(1, START))
 
     def test_its_own_marks_are_not_taken_for_those_of_others(self) -> None:

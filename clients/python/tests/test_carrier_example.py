@@ -59,7 +59,7 @@ class ExampleTest(unittest.TestCase):
 
     def await_lines(self, world: str, word: str, count: int) -> None:
         """Waits for so many lines that begin with these words."""
-        end = time.monotonic() + 60
+        end = time.monotonic() + 180
         while sum(line.startswith(word) for line in self.told(world)) < count:
             self.assertLess(time.monotonic(), end, f"{word}: {self.told(world)}")
             time.sleep(0.1)

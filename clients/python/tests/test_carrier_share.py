@@ -88,6 +88,7 @@ class CarriedTest(Sites):
         site.change("stock", -3)
         os.unlink(share)
         wait_until(lambda: self.told(share) == " ".join(map(str, site.newest_mark())))
+        wait_until(lambda: carrier.last_fault is None)  # it is noted behind the file
         self.assertIn('escrow_carrier_connected{site="0"} 1', text_of([numbers]))
         self.assertIsNone(carrier.last_fault)
 

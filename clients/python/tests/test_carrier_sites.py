@@ -6,7 +6,6 @@ import os
 import shutil
 import signal
 import tempfile
-import threading
 import time
 import unittest
 from collections.abc import Callable
@@ -22,7 +21,9 @@ from escrow_carrier import AsyncCarrier, Carrier, Folder, Medium, Policy, last_m
 # Each of the three begins with 10 rights to lower the stock, and 24, 23 and 23 to raise it.
 SHOPS = Schema(3, (Field("stock", 0, 100, 30),))
 NEVER = 3_600.0
-CALM = Policy(quiet=NEVER, patience=5.0)
+PATIENCE = 30.0
+"""Seconds in which who is asked answers, also on a busy machine."""
+CALM = Policy(quiet=NEVER, patience=PATIENCE)
 
 
 class Sites(unittest.TestCase):
@@ -59,7 +60,7 @@ class Sites(unittest.TestCase):
     def lower(self) -> list[int]:
         return [site.share("stock").lower for site in self.sites]
 
-    def await_it(self, is_so: Callable[[], bool], seconds: float = 10.0) -> None:
+    def await_it(self, is_so: Callable[[], bool], seconds: float = 60.0) -> None:
         end = time.monotonic() + seconds
         while not is_so():
             self.assertLess(time.monotonic(), end, f"it doesn't come: {self.lower()}, {self.hub.kept}")
@@ -102,23 +103,24 @@ class CarrierTest(Sites):
         began = time.monotonic()
         with self.assertRaises(Short) as short:
             carriers[0].change("stock", -31)
-        self.assertLess(time.monotonic() - began, 1)
+        self.assertLess(time.monotonic() - began, PATIENCE / 2)
         self.assertEqual((short.exception.share, self.lower(), carriers[0].counts.asked), (10, [10, 10, 10], 0))
         carriers[0].change("stock", -30)                # and that holds up no other sale
         self.assertEqual(self.lower(), [0, 0, 0])
 
     def test_who_has_told_nothing_is_asked_and_no_more_once_it_has_told(self) -> None:
-        carrier = self.carrier(0, Policy(quiet=NEVER, patience=1.0))
+        carrier = self.carrier(0, Policy(quiet=NEVER, patience=1.5))
         self.hub.tell(f"{self.top}/1/shares", "stock 10 23\n", True)
         self.await_it(lambda: carrier.known("stock", Kind.LOWER) == {1: 10, 2: None})
         self.assertFalse(carrier.fetch("stock", Kind.LOWER, 31))
         self.assertEqual(carrier.counts.asked, 2)       # of site 1 and site 2, for which nobody answers
-        time.sleep(1)                                   # until then nobody is asked again
-        timer = threading.Timer(0.3, self.hub.tell, (f"{self.top}/2/shares", "stock 10 23\n", True))
-        timer.start()
+        time.sleep(1.5)                                 # until then nobody is asked again
+        ears = self.hub.port()                          # site 2 tells as soon as site 1 is asked
+        ears.open("ears", [f"{self.top}/0/ask/1/+/+"],
+                  lambda _topic, _payload: self.hub.tell(f"{self.top}/2/shares", "stock 10 23\n", True), lambda: None)
         self.assertFalse(carrier.fetch("stock", Kind.LOWER, 31))
         self.assertEqual(carrier.counts.asked, 3)
-        timer.join()
+        ears.close()
 
     def test_tasks_sell_all_that_there_is(self) -> None:
         carriers = self.carriers()
@@ -207,15 +209,24 @@ class CarrierTest(Sites):
 
     def test_in_quiet_times_rights_are_evened_out(self) -> None:
         self.sites[0].change("stock", -10)
-        for number in range(3):
-            self.carrier(number, Policy(quiet=0.3), 0.1)
-        self.await_it(lambda: min(self.lower()) >= 5 and sum(self.lower()) == 20)
-        time.sleep(1)                                   # (parts are 7, 7 and 6, and what is within a quarter stays)
-        left = self.lower()
+        for number in range(3):                         # (each look is late on a busy machine, and who looks too late is away)
+            self.carrier(number, Policy(quiet=0.3), 0.5)
+        left: list[int] = []
+
+        def is_even() -> bool:                          # (parts are 7, 7 and 6, and what is within a quarter stays)
+            left[:] = self.lower()
+            return min(left) >= 5 and max(left) <= 8 and sum(left) == 20 and self.raise_() == 80
+
+        def stays() -> bool:
+            is_well = is_even()
+            time.sleep(2 if is_well else 0)
+            return is_well and self.lower() == left and self.raise_() == 80
+        self.await_it(stays)
         self.assertEqual((min(left) >= 5, max(left) <= 8, sum(left)), (True, True, 20))
-        self.assertEqual(sum(site.share("stock").raise_ for site in self.sites), 80)
-        time.sleep(1)
-        self.assertEqual(self.lower(), left)
+
+    def raise_(self) -> int:
+        """How many rights to raise are free at all sites together."""
+        return sum(site.share("stock").raise_ for site in self.sites)
 
     def test_what_is_on_its_way_is_not_given_twice(self) -> None:
         carriers = self.met([self.carrier(number, CALM, 2.0) for number in range(3)])
@@ -224,7 +235,7 @@ class CarrierTest(Sites):
         self.await_it(lambda: carriers[1].known("stock", Kind.LOWER) == {0: 0})
         pid, given = self.sites[0].pid, 0
         assert pid is not None
-        for _ in range(3):                              # (on a busy machine a look comes late, and finds site 0 away)
+        for _ in range(8):                              # (on a busy machine a look comes late, and finds site 0 away)
             os.kill(pid, signal.SIGSTOP)
             carriers[1].policy = Policy(quiet=0.3)
             time.sleep(5)                               # two or three looks, before site 0 is held for away
@@ -232,15 +243,16 @@ class CarrierTest(Sites):
             os.kill(pid, signal.SIGCONT)
             if given:
                 break
-            time.sleep(3)                               # site 0 tells anew that it has none
+            last = carriers[1]._reports[0].at           # site 0 tells anew that it has none
+            self.await_it(lambda last=last: carriers[1]._reports[0].at > last)  # type: ignore[misc]
         self.assertEqual(given, 5)
         self.await_it(lambda: self.lower() == [5, 5, 10])
 
     def test_who_is_away_is_neither_asked_nor_given_to(self) -> None:
-        policy = Policy(quiet=0.3)
-        carriers = self.met([self.carrier(number, policy, 0.5) for number in range(3)])
+        policy = Policy(quiet=0.3, patience=PATIENCE)
+        carriers = self.met([self.carrier(number, policy, 2.0) for number in range(3)])
         carriers[2].close()
-        time.sleep(2)
+        self.await_it(lambda: all(2 not in it.known("stock", Kind.LOWER) for it in carriers[:2]))
         self.sites[0].change("stock", -10)
         self.await_it(lambda: self.lower() == [5, 5, 10])
         with self.assertRaises(Short):

@@ -85,7 +85,7 @@ class Worlds(unittest.TestCase):
         return world
 
     def await_it(self, is_so: Callable[[], bool]) -> None:
-        end = time.monotonic() + 20
+        end = time.monotonic() + 120
         while not is_so():
             self.assertLess(time.monotonic(), end, "it doesn't come")
             time.sleep(0.02)
@@ -182,7 +182,7 @@ class Worlds(unittest.TestCase):
         marks = [site.newest_mark() for site in rehearsal.sites]
         rehearsal.close()
         self.judge(folders, 198)
-        self.assertEqual([last_mark(it, self.medium()) for it in folders], marks)
+        self.assertEqual([last_mark(it, self.medium(), 60.0) for it in folders], marks)
         for it in folders:
             os.rename(it, f"{it}-rehearsal")
         real = self.served(self.created("opening-night", "hall"))
@@ -215,11 +215,11 @@ class Worlds(unittest.TestCase):
         os.rename(f"{folders[0]}-copy", folders[0])
         for id in (last, back):
             self.assertIn(f"transaction {id} isn't in it", self.refused(partial(Site, folders[0], last_id=id)))
-        mark = last_mark(folders[0], self.medium())
+        mark = last_mark(folders[0], self.medium(), 60.0)
         self.assertIn("older than --not-before", self.refused(lambda: Site(folders[0], not_before=mark)))
         with Site(folders[0], last_id=first) as site:   # its books have no later one: the carrier's mark is newer
             with self.assertLogs("escrow.carrier", "ERROR"):
-                self.assertIn("older than its mark", self.refused(lambda: Carrier(site, self.medium(), CALM, 0.2)))
+                self.assertIn("older than its mark", self.refused(lambda: Carrier(site, self.medium(), CALM, 0.2, wait=60.0)))
             self.refused(lambda: site.change("seats", -1))
         self.assertEqual(len(commits(folders[0], HALL)), 1)
         self.sell_out(new)

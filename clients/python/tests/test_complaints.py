@@ -13,7 +13,7 @@ import unittest.mock
 
 from doors import Door, DoorTest
 from forgetful_site import tell
-from programs import SHOP, kill, of_shop, wait_until
+from programs import LONG, SHOP, kill, of_shop, wait_until
 import escrow
 from escrow import DeviceFault, Share, complaints
 from escrow.complaints import MOST, Complaints
@@ -29,7 +29,7 @@ log = logging.getLogger("escrow.test")
 HEIR = """#!{python} -S
 import os, subprocess, sys
 nothing = subprocess.DEVNULL
-left = subprocess.Popen(["sleep", "30"], stdin=nothing, stdout=nothing, start_new_session=True)
+left = subprocess.Popen(["sleep", "600"], stdin=nothing, stdout=nothing, start_new_session=True)
 with open(sys.argv[0] + ".pids", "a", encoding="ascii") as file:
     print(left.pid, file=file)
 os.execv("{real}", ["{real}", *sys.argv[1:]])
@@ -38,6 +38,11 @@ os.execv("{real}", ["{real}", *sys.argv[1:]])
 
 class TextTest(unittest.TestCase):
     """What is kept of a pipe, and what is told of it."""
+
+    def setUp(self) -> None:
+        patience = unittest.mock.patch.object(complaints, "LAST", LONG)  # where the end comes it isn't left out
+        patience.start()
+        self.addCleanup(patience.stop)
 
     def begun(self) -> tuple[Complaints, int]:
         """One over a new pipe, and the end to write into."""
@@ -62,7 +67,7 @@ class TextTest(unittest.TestCase):
         told, end = self.begun()
         with self.assertLogs("escrow.test", "WARNING") as logs:
             os.write(end, f"{BARRED}\n".encode())
-            wait_until(lambda: logs.records, 5.0)
+            wait_until(lambda: logs.records)
             os.write(end, f"one\n{MOVED}\n{FAULT}\n".encode())
             os.close(end)
             self.assertEqual(told.text(), f"one\n{FAULT}")
@@ -95,13 +100,13 @@ class TextTest(unittest.TestCase):
 
     def test_another_that_holds_the_pipe_open(self) -> None:
         told, end = self.begun()
-        late = threading.Timer(5.0, os.close, (end,))
+        late = threading.Timer(2 * LONG, os.close, (end,))
         late.start()
-        with unittest.mock.patch.object(complaints, "LAST", 0.2):
+        with unittest.mock.patch.object(complaints, "LAST", 2.0):  # in which it is read
             os.write(end, b"one\ntw")
             began = time.monotonic()
             self.assertEqual(told.text(), "one\ntw")
-            self.assertLess(time.monotonic() - began, 4.0)
+            self.assertLess(time.monotonic() - began, LONG)
         late.cancel()
         with self.assertLogs("escrow.test", "WARNING"):  # it is read on, so that nobody is stopped
             os.write(end, b"x" * 200_000 + f"\n{MOVED}\n".encode())
@@ -123,7 +128,7 @@ class SiteTest(DoorTest):
 
     def opened_site(self, folder: str, program: str = PROGRAM) -> escrow.Site:
         """Over `forgetful_site.py`, until the test ends."""
-        site = escrow.Site(folder, program=program, timeout=10.0, backoff=QUICK)
+        site = escrow.Site(folder, program=program, timeout=LONG, wait=LONG, backoff=QUICK)
         self.addCleanup(site.close)
         return site
 
@@ -138,7 +143,7 @@ class SiteTest(DoorTest):
         site = self.opened_site(folder)
         with self.assertLogs("escrow", "WARNING") as logs:
             self.asked_with(site, folder, f"{BARRED}\n")
-            wait_until(lambda: logs.records, 5.0)
+            wait_until(lambda: logs.records)
             self.assertEqual(site.change("stock", -1), of_shop("1.1"))
         self.assertEqual([(it.name, it.getMessage()) for it in logs.records], [("escrow", BARRED)])
         self.assertEqual((site.up, site.last_error, site.counts.stops), (True, "", 0))
@@ -154,7 +159,7 @@ class SiteTest(DoorTest):
                 site.change("stock", -1)
             with self.assertRaises(escrow.Down) as down:
                 site.read("stock")
-            wait_until(lambda: len(logs.records) == 3, 5.0)
+            wait_until(lambda: len(logs.records) == 3)
         self.assertEqual((site.last_error, raised.exception.device), (FAULT, EIO))
         self.assertEqual((str(down.exception), down.exception.device, down.exception.status),
                          (f"{FAULT}: make room or mend the disk; after a sync that failed start the machine anew before the site", EIO, 5))
@@ -200,14 +205,14 @@ class SiteTest(DoorTest):
         """What was told until then is the text, and neither the next start nor a close waits for it."""
         folder = self.folder()
         site = self.opened_site(folder, self.heir())
-        with unittest.mock.patch.object(complaints, "LAST", 0.2):
+        with unittest.mock.patch.object(complaints, "LAST", 2.0):
             began = time.monotonic()
             self.asked_with(site, folder, "one\n")
             kill(site)
             wait_until(lambda: site.up and site.epoch == 2)
             self.assertEqual(site.last_error, "one")
             site.close()
-        self.assertLess(time.monotonic() - began, 10.0)
+        self.assertLess(time.monotonic() - began, LONG)
 
 
 class OverDoorTest(DoorTest):
@@ -217,19 +222,19 @@ class OverDoorTest(DoorTest):
         """A folder, a door over it, and a client."""
         folder = self.folder(SHOP)
         door = self.opened(Door(folder, os.path.join(self.place, "door"), program=PROGRAM))
-        return folder, door, self.connected(door, timeout=10.0, backoff=QUICK, patience=0.5)
+        return folder, door, self.connected(door, backoff=QUICK, patience=0.5)
 
     def test_it_is_warned_of_while_it_serves(self) -> None:
         folder, door, site = self.begun()
         tell(folder, complains=f"{BARRED}\n")
         site.share("stock")
         tell(folder)
-        wait_until(lambda: f"escrow.door: {BARRED}\n" in door.text(), 5.0)
+        wait_until(lambda: f"escrow.door: {BARRED}\n" in door.text())
         self.assertEqual((site.change("stock", -1), door.process.poll()), (of_shop("1.1"), None))
         tell(folder, stop="behind", fault=f"{FAULT}\n")
         with self.assertRaises(escrow.EscrowError):
             site.change("stock", -1)
-        self.assertEqual(door.process.wait(10), 5)
+        self.assertEqual(door.process.wait(LONG), 5)
         self.assertIn(f"escrow.door: {folder}: the site stopped, status 5: {FAULT}\nescrow.door: {FAULT}: make room or mend", door.text())
         self.assertEqual(door.text().count(BARRED), 1)
 

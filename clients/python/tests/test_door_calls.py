@@ -4,6 +4,7 @@ from __future__ import annotations
 
 import os
 import unittest
+import unittest.mock
 
 import test_site_calls
 import test_site_loops
@@ -30,6 +31,12 @@ class TasksOverDoorTest(OverDoor, test_site_calls.AsyncCallTest):
 
 class StillOverDoorTest(OverDoor, test_site_time.StillTransactionTest):
     """A site that stands still."""
+
+    def setUp(self) -> None:
+        super().setUp()
+        limit = unittest.mock.patch("test_site_time.LIMIT", 3.0)  # in which the door takes a line, also on a busy machine
+        limit.start()
+        self.addCleanup(limit.stop)
 
     # Of 64 at once a connection has 32: test_door_stops has that. The other takes long, and the door has no part in it.
     test_in_tasks = None  # type: ignore[assignment]

@@ -3,21 +3,26 @@
 from __future__ import annotations
 
 import asyncio
+import errno
 import os
 import random
 import signal
 import socket
 import threading
 import time
+import types
 import unittest
+import unittest.mock
 from collections.abc import Sequence
 
-from doors import Between, Door, DoorTest, Pusher, children_of
-from programs import LARGE, SHOP, Act, commits, of_shop, wait_until
+from doors import Between, Door, DoorTest, Pusher, children_of, kill_child
+from programs import LARGE, LONG, SHOP, Act, commits, of_shop, stand_still, wait_until
 import escrow
 from escrow import Outcome, Share
 from escrow.pipeline import Taken
 from escrow.shared import SharedPipeline
+from escrow.steps import share
+from escrow.waiters import ThreadWaiter
 
 TASKS = 16
 Told = dict[str, set[str]]
@@ -32,7 +37,7 @@ def joined(all_told: list[Told], word: str) -> set[str]:
     return found
 
 
-def began(door: Door, hows: Sequence[str], timeout: float = 20.0) -> list[Pusher]:
+def began(door: Door, hows: Sequence[str], timeout: float = LONG) -> list[Pusher]:
     """Processes that have come in, and sell so."""
     return [pusher.begin() for pusher in [Pusher(door.path, TASKS, how, timeout) for how in hows]]
 
@@ -87,20 +92,22 @@ class KilledTest(DoorTest):
         pushers = began(door, ("change", "mixed"), 0.3)
         for _ in range(5):
             time.sleep(luck.uniform(0.1, 0.3))
-            os.kill(wait_for_child(door), signal.SIGKILL)
-        time.sleep(0.3)
+            kill_child(door)
+        wait_until(lambda: any(pusher.has_told("sold") for pusher in pushers))  # on a busy machine few calls are in time
         self.judge(door, [pusher.end() for pusher in pushers], 0)
         self.assertIn("the site stopped, status -9", door.text())
 
     def test_what_is_busy_over_a_door_that_stands_still_is_never_made(self) -> None:
         door, luck = self.door(LARGE), random.Random(8)
         pushers = began(door, ("change", "mixed"), 0.05)
-        for _ in range(18):  # on a busy machine few of them leave a call waiting
+        for turn in range(200):  # on a busy machine few of them leave a call waiting
             time.sleep(luck.uniform(0.05, 0.2))
             door.stand_still()
-            time.sleep(luck.uniform(0.05, 0.2))
+            time.sleep(luck.uniform(0.05, 0.2) * min(10, max(1, turn - 16)))
             door.go_on()
-        time.sleep(0.3)
+            if turn >= 17 and any(pusher.has_told("busy") for pusher in pushers):
+                break
+        wait_until(lambda: any(pusher.has_told("sold") for pusher in pushers))
         all_told = [pusher.end() for pusher in pushers]
         self.assertTrue(any(told.get("busy") for told in all_told))
         self.judge(door, all_told, 0)
@@ -138,7 +145,7 @@ class KilledTest(DoorTest):
         """What a change raises whose door dies once it has taken it, and doesn't come again in time."""
         serve = wait_for_child(door)
         told: list[object] = []
-        os.kill(serve, signal.SIGSTOP)
+        stand_still(serve)
 
         def changes() -> None:
             try:
@@ -169,7 +176,7 @@ class StillTest(DoorTest):
         door = self.door(SHOP)
         site = self.connected(door, timeout=0.3, backoff=escrow.Backoff(0.01, 0.05))
         t = site.transaction()
-        t.lower("stock", 2, timeout=5.0)
+        t.lower("stock", 2, timeout=LONG)
         door.stand_still()
         acts: list[Act] = [lambda: site.change("stock", -1), lambda: site.read("stock"),
                            lambda: site.give(1, "stock", escrow.Kind.LOWER, 1)]  # fmt: skip
@@ -183,8 +190,8 @@ class StillTest(DoorTest):
         self.assertEqual(raised.exception.cause, escrow.Cause.STOPPED)
         door.go_on()
         wait_until(lambda: site.up)
-        self.assertEqual(site.share("stock", timeout=5.0), Share(20, 30))
-        self.assertEqual(site.change("stock", -1, timeout=5.0), of_shop("1.2"))
+        self.assertEqual(site.share("stock", timeout=LONG), Share(20, 30))
+        self.assertEqual(site.change("stock", -1, timeout=LONG), of_shop("1.2"))
         door.close()
         self.assertEqual(list(commits(door.folder, SHOP)), [of_shop("1.2")])
 
@@ -193,7 +200,7 @@ class StillTest(DoorTest):
 
         async def tasks() -> list[object]:
             async with escrow.AsyncSite.connect(door.path, timeout=0.3) as shop:
-                await asyncio.gather(*(shop.change("stock", -1, timeout=5.0) for _ in range(64)))
+                await asyncio.gather(*(shop.change("stock", -1, timeout=LONG) for _ in range(64)))
                 door.stand_still()
                 began = time.monotonic()
                 told = await asyncio.gather(*(shop.change("stock", -1) for _ in range(64)), return_exceptions=True)
@@ -208,15 +215,35 @@ class StillTest(DoorTest):
 
     def test_what_it_has_taken_is_in_doubt_with_its_id(self) -> None:
         door = self.door(SHOP)
-        site = self.connected(door, timeout=0.3)
+        site = self.connected(door, timeout=5.0)  # in which the door takes it, also on a busy machine
         serve = wait_for_child(door)
-        os.kill(serve, signal.SIGSTOP)
+        stand_still(serve)
         with self.assertRaises(escrow.Unknown) as raised:
             site.change("stock", -1)
         os.kill(serve, signal.SIGCONT)
         self.assertEqual(raised.exception.id, of_shop("1.1"))
-        self.assertEqual(site.outcome(of_shop("1.1"), timeout=5.0), Outcome.COMMITTED)
+        self.assertEqual(site.outcome(of_shop("1.1"), timeout=LONG), Outcome.COMMITTED)
         self.assertEqual((site.epoch, site.counts.stops), (1, 0))
+
+
+class ScarceTest(DoorTest):
+    """No descriptor is free for a moment."""
+
+    def test_the_next_connection_is_made_once_there_is_one(self) -> None:
+        door = self.door(SHOP)
+        site = self.connected(door, backoff=escrow.Backoff(0.01, 0.05))
+        left = [OSError(errno.EMFILE, os.strerror(errno.EMFILE)) for _ in range(3)]
+
+        def comes_in(*words: int) -> socket.socket:
+            if left:
+                raise left.pop()
+            return socket.socket(*words)
+
+        with unittest.mock.patch("escrow.connector.socket", types.SimpleNamespace(**{**vars(socket), "socket": comes_in})):
+            door.kill()
+            wait_until(lambda: not left)
+            door.start()
+            self.assertEqual(site.change("stock", -1), of_shop("2.1"))
 
 
 class PieceTest(DoorTest):
@@ -240,6 +267,21 @@ class PieceTest(DoorTest):
         for line in ("door busy", "door took 1 1.1", "door took x 1.1", "door took", "door", "door what", "0 begin -> no"):
             self.assertIsNotNone(self.pipeline().take(f"{line}\n".encode()).fault, line)
 
+    def test_who_is_late_is_told_where_the_connection_is_not_read_to_its_end(self) -> None:
+        """What has come fits no line: whether the door had taken it isn't known, and it isn't asked again, though it may be."""
+        pipeline, waiter = self.pipeline(), ThreadWaiter()
+        call = share(0, "stock")
+        call.answer, call.waiter = None, waiter
+        pipeline.submit((call,))
+        self.assertIsNone(pipeline.withdraw(call))  # it is told as the connection has ended
+        pipeline.doubt_all()
+        pipeline.detach()
+        pipeline.fall()
+        self.assertTrue(waiter.comes(0.0))
+        with self.assertRaises(escrow.Busy):
+            waiter.wait()
+        self.assertEqual(pipeline.unanswered, 0)
+
 
 class BetweenTest(DoorTest):
     """A program in between, as one that knows TLS: it may have the door's word and not pass it on."""
@@ -248,24 +290,24 @@ class BetweenTest(DoorTest):
         door = self.door(SHOP)
         between = Between(f"{door.path}.far", door.path)
         self.addCleanup(between.close)
-        site = escrow.Site.connect(f"{door.path}.far", timeout=0.5)
+        site = escrow.Site.connect(f"{door.path}.far", timeout=0.5, wait=LONG)
         self.addCleanup(site.close)
-        self.assertEqual(site.change("stock", -1, timeout=5.0), of_shop("1.1"))
+        self.assertEqual(site.change("stock", -1, timeout=LONG), of_shop("1.1"))
         door.stand_still()
         with self.assertRaises(escrow.Unknown) as raised:
             site.change("stock", -2)
         self.assertIsNone(raised.exception.id)
         door.go_on()
-        wait_until(lambda: site.share("stock", timeout=5.0) == Share(17, 33))
-        with site.transaction(timeout=5.0) as t:
+        wait_until(lambda: site.share("stock", timeout=LONG) == Share(17, 33))
+        with site.transaction(timeout=LONG) as t:
             t.lower("stock", 1)
-        self.assertEqual(site.outcome(t.id, timeout=5.0), Outcome.COMMITTED)
+        self.assertEqual(site.outcome(t.id, timeout=LONG), Outcome.COMMITTED)
 
     def test_a_connection_that_ends(self) -> None:
         door = self.door(SHOP)
         between = Between(f"{door.path}.far", door.path)
         self.addCleanup(between.close)
-        site = escrow.Site.connect(f"{door.path}.far", timeout=20.0, backoff=escrow.Backoff(0.01, 0.05))
+        site = escrow.Site.connect(f"{door.path}.far", timeout=LONG, wait=LONG, backoff=escrow.Backoff(0.01, 0.05))
         self.addCleanup(site.close)
         t = site.transaction()
         t.lower("stock", 3)

@@ -47,7 +47,7 @@ class ForgetfulTest(DoorTest):
 
     def opened_site(self, folder: str, **options: Any) -> escrow.Site:
         """A client of it until the test ends, over the folder or over a door."""
-        options = {"timeout": 10.0, "backoff": QUICK, **options}
+        options = {"timeout": 60.0, "wait": 60.0, "backoff": QUICK, **options}
         if self.over_a_door:
             door = self.opened(Door(folder, os.path.join(self.place, "door"), program=PROGRAM))
             site = escrow.Site.connect(door.path, **options)
@@ -309,11 +309,11 @@ class KeysOverFolderTest(ForgetfulTest):
         self.assertEqual(self.sold(folder), [(of_shop("1.1"), -3), (of_shop("3.1"), -2)])
 
     def test_a_question_that_is_not_answered_in_time(self) -> None:
-        folder = self.forgetful(slow=0.6)
+        folder = self.forgetful(slow=3.0)
         site = self.opened_site(folder)
         calls: list[Does] = [
-            lambda: site.change("stock", -300, key="order", timeout=0.2), lambda: site.kept_key("order", timeout=0.2),
-            lambda: asyncio.run(escrow.AsyncSite(site).change("stock", -300, key="order", timeout=0.2)),
+            lambda: site.change("stock", -300, key="order", timeout=1.5), lambda: site.kept_key("order", timeout=1.5),
+            lambda: asyncio.run(escrow.AsyncSite(site).change("stock", -300, key="order", timeout=1.5)),
         ]  # fmt: skip
         for does in calls:
             with self.assertRaises(escrow.Busy):
@@ -609,7 +609,7 @@ class PositionsOverDoorTest(PositionsOverFolderTest):
     def test_others_begin_too(self) -> None:
         """What one connection was told counts what all have begun."""
         site = self.opened_site(self.forgetful())
-        other = escrow.Site.connect(site.folder, timeout=10.0)
+        other = escrow.Site.connect(site.folder, timeout=60.0, wait=60.0)
         self.addCleanup(other.close)
         for _ in range(3):
             other.change("stock", -1)
@@ -660,7 +660,7 @@ class VersionTest(ForgetfulTest):
 
     def test_a_door_over_one(self) -> None:
         door = Door(self.forgetful(version=3), os.path.join(self.place, "door"), program=PROGRAM)
-        self.assertEqual(door.process.wait(20), 1)
+        self.assertEqual(door.process.wait(60), 1)
         self.assertIn("the program is newer than this client", door.text())
 
     def test_a_door_that_is_newer(self) -> None:

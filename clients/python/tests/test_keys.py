@@ -12,7 +12,21 @@ import threading
 import unittest
 from collections.abc import Callable
 
-from programs import LARGE, SHOP, SiteTest, commits, escrow_site, is_ended, kill, of_large, of_shop, pid_of, wait_until
+from programs import (
+    LARGE,
+    LONG,
+    SHOP,
+    SiteTest,
+    commits,
+    escrow_site,
+    is_ended,
+    kill,
+    of_large,
+    of_shop,
+    pid_of,
+    stand_still,
+    wait_until,
+)
 from test_site_stops import CUT
 from test_site_time import LIMIT, TimeTest, still
 import escrow
@@ -159,7 +173,7 @@ class OnceTest(SiteTest):
 
         def before(_: str) -> None:
             has_all.set()
-            may_go_on.wait(20)
+            may_go_on.wait(LONG)
 
         def buys(key: str) -> object:
             return asyncio.run(escrow.AsyncSite(site).change("stock", -1, key=key))
@@ -167,7 +181,7 @@ class OnceTest(SiteTest):
         told: list[str] = []
         first = threading.Thread(target=lambda: told.append(site.change("stock", -20, before, key="order")))
         first.start()
-        self.assertTrue(has_all.wait(20))
+        self.assertTrue(has_all.wait(LONG))
         calls: list[Callable[[str], object]] = [lambda key: site.change("stock", -1, key=key), buys]
         for call in calls:
             with self.assertRaises(escrow.Busy) as raised:
@@ -221,7 +235,7 @@ class OnceTest(SiteTest):
         id = site.change("stock", -1, key="order")
         for _ in range(140):
             self.assertEqual(site.change("stock", -1, key="order"), id)
-        held = [site.transaction(timeout=5.0) for _ in range(30)]
+        held = [site.transaction(timeout=LONG) for _ in range(30)]
         for t in held:
             t.lower("stock", 1)
         self.assertEqual((site.open, site.share("stock").lower), (30, 499_969))
@@ -329,9 +343,9 @@ class StoppedTest(TimeTest):
 
         def before(id: str) -> None:
             told.append(id)
-            os.kill(pid_of(site), signal.SIGSTOP)
+            stand_still(pid_of(site))
 
-        fault = self.late(lambda: site.change("stock", -20, before, key="order", timeout=2.0), escrow.Unknown)
+        fault = self.late(lambda: site.change("stock", -20, before, key="order", timeout=5.0), escrow.Unknown)
         assert isinstance(fault, escrow.Unknown)
         self.assertEqual((fault.id, fault.key, told), (of_shop("1.1"), "order", [of_shop("1.1")]))
         self.assertIn("key order", str(fault))
@@ -388,7 +402,7 @@ class StoppedTest(TimeTest):
                 call(site)
 
     def test_a_program_that_does_not_know_keys(self) -> None:
-        site = escrow.Site(self.folder(), program=self.program(OLDER), timeout=10.0)
+        site = escrow.Site(self.folder(), program=self.program(OLDER), timeout=LONG)
         self.addCleanup(site.close)
 
         def commits_one(it: escrow.Site) -> str:

@@ -10,7 +10,7 @@ import unittest
 
 import test_keys
 from doors import Between, DoorTest, children_of
-from programs import LARGE, SHOP, commits, escrow_site, of_shop, wait_until
+from programs import LARGE, LONG, SHOP, commits, escrow_site, of_shop, stand_still, wait_until
 from test_door_calls import OverDoor
 import escrow
 from escrow import Outcome, Share
@@ -96,7 +96,7 @@ class SharedTest(DoorTest):
         for hand in (ours, others):
             hand.told("0 begin", "0 escrow .1 stock -3")
         serve = children_of(door.process.pid)[0]
-        os.kill(serve, signal.SIGSTOP)
+        stand_still(serve)
         ours.ask("0 commit .1 key order")
         self.assertEqual(ours.line(), "door took 1 1.3")
         others.ask("0 commit .1 key order")
@@ -110,12 +110,12 @@ class SharedTest(DoorTest):
         site, serve = self.connected(door), children_of(door.process.pid)[0]
 
         def before(_: str) -> None:
-            os.kill(serve, signal.SIGSTOP)
+            stand_still(serve)
 
         began = time.monotonic()
         with self.assertRaises(escrow.Unknown) as raised:
-            site.change("stock", -20, before, key="order", timeout=0.5)
-        self.assertLess(time.monotonic() - began, 4.0)
+            site.change("stock", -20, before, key="order", timeout=5.0)  # its first trip is made in time
+        self.assertLess(time.monotonic() - began, 5.0 + LONG)
         os.kill(serve, signal.SIGCONT)
         self.assertEqual((raised.exception.id, raised.exception.key), (of_shop("1.1"), "order"))
         self.assertEqual(site.change("stock", -20, key="order"), of_shop("1.1"))
@@ -141,7 +141,7 @@ class SharedTest(DoorTest):
         door = self.door(SHOP)
         between = Between(f"{door.path}.far", door.path)
         self.addCleanup(between.close)
-        site = escrow.Site.connect(f"{door.path}.far", timeout=20.0, backoff=escrow.Backoff(0.01, 0.05))
+        site = escrow.Site.connect(f"{door.path}.far", timeout=LONG, wait=LONG, backoff=escrow.Backoff(0.01, 0.05))
         self.addCleanup(site.close)
         t, told = site.transaction(), []  # type: escrow.Transaction, list[object]
         t.lower("stock", 3)
@@ -165,7 +165,7 @@ class SharedTest(DoorTest):
         self.assertEqual(site.change("stock", -3, key="order"), of_shop("1.1"))
         door.stand_still()
         with self.assertRaises(escrow.Unknown) as raised:
-            site.change("stock", -2, key="other", timeout=0.3)
+            site.change("stock", -2, key="other", timeout=0.5)
         self.assertEqual((raised.exception.id, raised.exception.key), (None, "other"))
         door.go_on()
         id = site.change("stock", -2, key="other")

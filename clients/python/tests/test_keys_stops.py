@@ -7,7 +7,6 @@ import asyncio
 import itertools
 import os
 import random
-import signal
 import subprocess
 import sys
 import threading
@@ -15,8 +14,8 @@ import time
 import unittest
 from collections.abc import Callable
 
-from doors import Door, DoorTest, children_of
-from programs import LARGE, Changes, Killer, SiteTest, commits, escrow_site, of_large, wait_until
+from doors import Door, DoorTest, kill_child
+from programs import LARGE, LONG, Changes, Killer, SiteTest, commits, escrow_site, of_large, wait_until
 import escrow
 
 KILLS = 30
@@ -26,7 +25,7 @@ SELLER = """
 import os, sys, threading
 import programs, escrow
 where, program, many = sys.argv[1:]
-site = escrow.Site(where, program=program) if program else escrow.Site.connect(where)
+site = escrow.Site(where, program=program, wait=60.0) if program else escrow.Site.connect(where, wait=60.0)
 def sell(first):
     for number in range(first, int(many), 4):
         id = site.change("stock", -1, key=f"order-{number}")
@@ -132,7 +131,7 @@ def killed_sellers(where: str, program: str, many: int) -> dict[str, str]:
     """What clients told of so many orders, each of which was killed a moment after its first one, but for the last. Fails
     where two told different ids of one. Without a program `where` is a door."""
     luck, told = random.Random(5), {}  # type: random.Random, dict[str, str]
-    for seconds in (*(luck.uniform(0.1, 0.4) for _ in range(4)), 60.0):
+    for seconds in (*(luck.uniform(0.1, 0.4) for _ in range(4)), 5 * LONG):
         words = [sys.executable, "-S", "-c", SELLER, where, program, str(many)]
         here = os.path.dirname(os.path.abspath(__file__))
         with subprocess.Popen(words, stdout=subprocess.PIPE, text=True, cwd=here) as client:
@@ -158,12 +157,12 @@ class KilledTest(SiteTest):
         def sells(who: int) -> None:
             luck = random.Random(who)
             for number in numbers_while(lambda: killer.at_work):  # two callers have the same orders
-                orders.sell(site, f"{who // 2}-{number}", luck.choice((0.1, 20.0)))
+                orders.sell(site, f"{who // 2}-{number}", luck.choice((0.1, LONG)))
 
         async def task_sells(shop: escrow.AsyncSite, who: int) -> None:
             luck = random.Random(who)
             for number in numbers_while(lambda: killer.at_work):
-                await orders.sell_by_task(shop, f"{who // 2}-{number}", luck.choice((0.1, 20.0)))
+                await orders.sell_by_task(shop, f"{who // 2}-{number}", luck.choice((0.1, LONG)))
 
         async def tasks() -> None:
             shop = escrow.AsyncSite(site)
@@ -210,8 +209,8 @@ class DoorKilledTest(DoorTest):
 
         def sells(site: escrow.Site, who: int) -> None:
             luck = random.Random(who)
-            for number in numbers_while(lambda: not over.is_set()):
-                orders.sell(site, f"{who}-{number}", luck.choice((0.1, 20.0)))
+            for number in numbers_while(lambda: not over.is_set() or len(orders.told) <= 5):
+                orders.sell(site, f"{who}-{number}", luck.choice((0.1, LONG)))
 
         def kills() -> None:
             for number in range(12):
@@ -220,12 +219,16 @@ class DoorKilledTest(DoorTest):
                     door.kill()
                     door.start()
                 else:
-                    wait_until(lambda: children_of(door.process.pid))
-                    os.kill(children_of(door.process.pid)[0], signal.SIGKILL)
+                    kill_child(door)
             time.sleep(0.2)
-            over.set()
 
-        all_at_once([kills, *(lambda it=it, who=who: sells(it, who) for it in sites for who in range(4))])
+        def kills_all() -> None:
+            try:
+                kills()
+            finally:
+                over.set()
+
+        all_at_once([kills_all, *(lambda it=it, who=who: sells(it, who) for it in sites for who in range(4))])
         told = {key: sites[0].kept_key(key) for key in orders.told}
         self.assertEqual(door.close(), 0)
         self.assertEqual(told, orders.told)

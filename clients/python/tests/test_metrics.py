@@ -2,6 +2,7 @@
 from __future__ import annotations
 
 import asyncio
+import contextlib
 import math
 import os
 import re
@@ -17,7 +18,7 @@ import urllib.request
 import programs
 
 import escrow
-from escrow.metrics import CONTENT_TYPE, Metrics, Type, serve, text_of, write
+from escrow.metrics import CONTENT_TYPE, LONGEST, LOOK, Metrics, Type, serve, text_of, write
 
 NAME = re.compile(r"[a-zA-Z_:][a-zA-Z0-9_:]*")
 SAMPLE = re.compile(r"([a-zA-Z_:][a-zA-Z0-9_:]*)(?:\{(.*)\})? (\S+)")
@@ -298,19 +299,19 @@ class Written(unittest.TestCase):
         server = serve([numbers], refresh=refresh)
         try:
             address = f"http://127.0.0.1:{server.port}"
-            with urllib.request.urlopen(f"{address}/metrics", timeout=5) as answer:
+            with urllib.request.urlopen(f"{address}/metrics", timeout=60) as answer:
                 self.assertEqual(answer.headers["Content-Type"], CONTENT_TYPE)
                 self.assertEqual(answer.read().decode(), WHOLE)
-            with urllib.request.urlopen(f"{address}/metrics", timeout=5) as answer:
+            with urllib.request.urlopen(f"{address}/metrics", timeout=60) as answer:
                 self.assertIn('escrow_open_transactions{site="2"} 2\n', answer.read().decode())
             with self.assertRaises(urllib.error.HTTPError) as fault:
-                urllib.request.urlopen(f"{address}/", timeout=5)
+                urllib.request.urlopen(f"{address}/", timeout=60)
             self.assertEqual(fault.exception.code, 404)
             fault.exception.close()
         finally:
             server.close()
         with self.assertRaises(OSError):
-            urllib.request.urlopen(f"{address}/metrics", timeout=5)
+            urllib.request.urlopen(f"{address}/metrics", timeout=60)
 
 
     def test_refresh_that_fails(self) -> None:
@@ -320,7 +321,7 @@ class Written(unittest.TestCase):
 
         server = serve([told()], refresh=down)
         try:
-            with urllib.request.urlopen(f"http://127.0.0.1:{server.port}/metrics", timeout=5) as answer:
+            with urllib.request.urlopen(f"http://127.0.0.1:{server.port}/metrics", timeout=60) as answer:
                 self.assertEqual(answer.read().decode(), WHOLE)
         finally:
             server.close()
@@ -344,7 +345,8 @@ class OverASite(unittest.TestCase):
             folder, numbers = os.path.join(at, "shop"), Metrics(0)
             schema = escrow.Schema(2, (escrow.Field("stock", 0, 100, 40),))
             escrow.create(folder, schema, 0, programs.escrow_site(), name="metrics")
-            with escrow.Site(folder, programs.escrow_site(), metrics=numbers) as site:
+            longest = unittest.mock.patch("escrow.metrics.LONGEST", programs.LONG)
+            with longest, escrow.Site(folder, programs.escrow_site(), metrics=numbers) as site:
                 for _ in range(3):
                     site.change("stock", -1)
                 with self.assertRaises(escrow.Short):
@@ -391,6 +393,11 @@ SITE = (("site", "0"),)
 SHARES: dict[tuple[tuple[str, str], ...], float] = {
     (("field", field), ("kind", kind)) + SITE: rights for field, kind, rights in
     (("stock", "lower", 20), ("stock", "raise", 30), ("seats", "lower", 6), ("seats", "raise", 0))}
+
+
+def looks(seconds: float = 0.0) -> contextlib.AbstractContextManager[object]:
+    """So many seconds pass between two looks meanwhile."""
+    return unittest.mock.patch("escrow.metrics.LOOK", seconds)
 
 
 class Looked(programs.SiteTest):
@@ -441,7 +448,7 @@ class Looked(programs.SiteTest):
 
     def test_what_is_left_without_anybody_who_asks(self) -> None:
         """All fields are there in the first text; later texts ask where something moved."""
-        with unittest.mock.patch("escrow.metrics.LOOK", 0.0):
+        with looks(), unittest.mock.patch("escrow.metrics.LONGEST", programs.LONG):
             site = self.site(metrics=self.numbers)
             self.assertEqual(self.told("share_rights"), SHARES)
             site.change("stock", -3)
@@ -460,37 +467,39 @@ class Looked(programs.SiteTest):
             self.assertEqual(self.count("share"), 8)
 
     def test_it_is_asked_at_most_every_five_seconds(self) -> None:
-        site = self.site(metrics=self.numbers)
-        self.assertEqual(self.told("share_rights"), SHARES)
-        site.change("stock", -3)
-        self.assertEqual(self.told("share_rights"), SHARES)
-        with unittest.mock.patch("time.monotonic", lambda at=time.monotonic() + 5.0: at):
-            self.numbers._look()
-        self.assertEqual(self.told("share_rights"), self.sold(3))
+        self.assertEqual(LOOK, 5.0)
+        with looks(600.0), unittest.mock.patch("escrow.metrics.LONGEST", programs.LONG):  # a busy machine may take longer than 5
+            site = self.site(metrics=self.numbers)
+            self.assertEqual(self.told("share_rights"), SHARES)
+            site.change("stock", -3)
+            self.assertEqual(self.told("share_rights"), SHARES)
+            self.numbers._due -= 600.0
+            self.assertEqual(self.told("share_rights"), self.sold(3))
 
     def test_a_site_that_stands_still_is_not_waited_for(self) -> None:
-        """A text takes half a second for it at most, and no more questions are asked of it than one of each field."""
-        with unittest.mock.patch("escrow.metrics.LOOK", 0.0):
+        """A text takes half a second for it at most, here five, and no more questions are asked of it than one of each field."""
+        self.assertEqual(LONGEST, 0.5)
+        with looks(), unittest.mock.patch("escrow.metrics.LONGEST", 5.0):
             site = self.site(metrics=self.numbers)
             site.change("stock", -3)
             self.assertEqual(self.told("share_rights"), self.sold(3))
             site.change("stock", -1)
             pid = programs.pid_of(site)
-            os.kill(pid, signal.SIGSTOP)
+            programs.stand_still(pid)
             took = []
             for _ in range(3):
                 began = time.monotonic()
                 self.assertEqual((self.told("share_rights"), site.unanswered), (self.sold(3), 2))
                 took.append(time.monotonic() - began)
-            self.assertLess(took[0], 5.0)
-            self.assertLess(took[1] + took[2], 0.9)  # it was waited for once
+            self.assertLess(took[0], 9.5)
+            self.assertLess(took[1] + took[2], 4.5)  # it was waited for once
             os.kill(pid, signal.SIGCONT)
             programs.wait_until(lambda: site.unanswered == 0)
             self.assertEqual(self.told("share_rights"), self.sold(4))
 
     def test_a_site_that_is_down_is_not_asked(self) -> None:
         """It is told as it was last; what was left unanswered counts as no call that was missed."""
-        with unittest.mock.patch("escrow.metrics.LOOK", 0.0):
+        with looks(), unittest.mock.patch("escrow.metrics.LONGEST", 5.0):
             gate = self.gated(metrics=self.numbers, patience=0.2)
             site = gate.site
             self.assertEqual(self.told("share_rights"), SHARES)
@@ -499,12 +508,12 @@ class Looked(programs.SiteTest):
             began = time.monotonic()
             for _ in range(3):
                 self.assertEqual((self.told("share_rights"), site.unanswered), (SHARES, 0))
-            self.assertLess(time.monotonic() - began, 1.4)
+            self.assertLess(time.monotonic() - began, 4.5)
             gate.open()
             programs.wait_until(lambda: site.up)
             self.assertEqual(self.told("share_rights"), self.sold(3))
             pid = programs.pid_of(site)
-            os.kill(pid, signal.SIGSTOP)
+            programs.stand_still(pid)
             self.numbers.answered("change", 0.1)  # so that it looks: that alone is under way as the process is killed
             self.assertEqual(self.told("share_rights"), self.sold(3))
             self.assertEqual(site.unanswered, 2)
@@ -519,24 +528,24 @@ class Looked(programs.SiteTest):
 
     def test_a_task_gathers_while_others_sell(self) -> None:
         """The loop reads its own answers then: it lends the reading back, and nothing hangs."""
-        with unittest.mock.patch("escrow.metrics.LOOK", 0.0):
-            site = self.site(programs.LARGE, metrics=self.numbers, sync=False)
+        with looks():
+            site, over = self.site(programs.LARGE, metrics=self.numbers, sync=False), threading.Event()
 
-            async def sells(shop: escrow.AsyncSite, end: float) -> None:
-                while time.monotonic() < end:
+            async def sells(shop: escrow.AsyncSite) -> None:
+                while not over.is_set():
                     await shop.change("stock", -1)
 
-            async def calls() -> int:
+            async def calls() -> None:
                 shop, end, count = escrow.AsyncSite(site), time.monotonic() + 1.0, 0
-                asked = [asyncio.create_task(sells(shop, end)) for _ in range(16)]
-                while time.monotonic() < end:
+                asked = [asyncio.create_task(sells(shop)) for _ in range(16)]
+                while time.monotonic() < end or count <= 5:
                     await asyncio.sleep(0.02)
                     self.assertEqual(len(self.told("share_rights")), 4)
                     count += 1
+                over.set()
                 await asyncio.gather(*asked)
-                return count
 
-            self.assertGreater(asyncio.run(calls()), 5)
+            asyncio.run(calls())
             left = site.share("stock").lower
             site.close()
             self.assertEqual(left, 500_000 - len(programs.commits(site.folder, programs.LARGE)))

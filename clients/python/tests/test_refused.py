@@ -168,7 +168,19 @@ class OlderTest(Copied):
             self.assertEqual((self.text(), wanted_mark(self.shop)), (kept, Mark(*map(int, kept.split()))))
         self.assertFalse(os.path.exists(f"{self.file()}.new"))
 
-    def test_the_program_minds_no_such_file(self) -> None:
+    def test_by_hand_it_is_refused_too(self) -> None:
+        mark = self.sell_behind_a_copy()
+        keep_mark(self.shop, mark)
+        before, words = self.log(), [escrow_site(), "serve", "--trace", self.shop]
+        told = (f"escrow_site: {self.shop}/log: epoch 1, length {mark.length - 11}: older than its mark in not_before, epoch "
+                f"{mark.epoch}, length {mark.length}: put the newest log back\n")
+        for _ in range(3):
+            ran = subprocess.run(words, input="", capture_output=True, text=True, check=False)
+            self.assertEqual((ran.returncode, ran.stdout, ran.stderr, self.log()), (3, "", told, before))
+        self.put_newest_log_back()
+        subprocess.run(words, input="", capture_output=True, text=True, check=True)
+
+    def test_a_log_that_has_come_to_its_mark_passes_each_task(self) -> None:
         folders = [it.folder for it in self.sites]
         for site in self.sites:
             site.close()
@@ -225,6 +237,13 @@ class ReadTest(SiteTest):
                     escrow.Site(os.path.dirname(path), program=escrow_site())
             why = "isn't there: look whether its disk is" if status == 3 else fault.strerror
             self.assertEqual((str(down.exception), down.exception.status), (f"{path}: {why}: {remedy}", status))
+
+    def test_a_file_of_the_folder_is_none(self) -> None:
+        named = f"{self.folder(SHOP)}/log"
+        told = f"{named}/site: isn't in a folder: name the one that create made, not a file in it"
+        with self.assertRaises(Down) as down:
+            escrow.Site(named, program=escrow_site())
+        self.assertEqual((str(down.exception), down.exception.status), (told, 3))
 
 
 if __name__ == "__main__":

@@ -15,7 +15,7 @@ import unittest
 from collections.abc import Callable, Iterator
 from typing import Any
 
-from doors import Door, DoorTest, children_of
+from doors import Door, DoorTest, kill_child
 from programs import LARGE, PACKAGES, Killer, escrow_site, kill, wait_until
 import escrow
 from escrow import Forgotten, Outcome
@@ -46,7 +46,7 @@ class Books:
         """It is sold. Fails where it was told another id."""
         assert self.sold.setdefault(key, id) == id, (key, id, self.sold[key])
 
-    async def buy(self, shop: escrow.AsyncSite, key: str, timeout: float = 20.0) -> None:
+    async def buy(self, shop: escrow.AsyncSite, key: str, timeout: float = 60.0) -> None:
         """Asks for an order until it is told, or forgotten."""
         while True:
             try:
@@ -59,7 +59,7 @@ class Books:
             except (escrow.Unknown, *AGAIN):
                 self.again += 1
 
-    async def buy_all(self, shop: escrow.AsyncSite, keys: Iterator[str], tasks: int, timeout: float = 20.0) -> None:
+    async def buy_all(self, shop: escrow.AsyncSite, keys: Iterator[str], tasks: int, timeout: float = 60.0) -> None:
         """Asks for all of them, so many at once."""
 
         async def buys() -> None:
@@ -90,7 +90,7 @@ class OverFolderTest(DoorTest):
 
     def opened_site(self, folder: str, **options: Any) -> escrow.Site:
         """A client of it until the test ends, over the folder or over a door."""
-        options = {"timeout": 20.0, "backoff": QUICK, **options}
+        options = {"timeout": 60.0, "wait": 60.0, "backoff": QUICK, **options}
         if self.over_a_door:
             site = escrow.Site.connect(self.opened_door(folder).path, **options)
         else:
@@ -198,8 +198,7 @@ class DoorKiller:
         for number in range(self._kills):
             time.sleep(self._random.uniform(0.2, 1.8) * self._pause)
             if number % 2:
-                for child in children_of(self._door.process.pid)[:1]:
-                    os.kill(child, signal.SIGKILL)
+                kill_child(self._door)
             else:
                 self._door.kill()
                 self._door.start()
@@ -221,7 +220,7 @@ class OverDoorTest(OverFolderTest):
         """Two connections, and one table of positions: each order is sold once, whoever is told it first."""
         folder, books, many = self.folder(LARGE), Books(), 3000
         first = self.opened_site(folder)
-        second = escrow.Site.connect(self.last_door.path, timeout=20.0, backoff=QUICK)
+        second = escrow.Site.connect(self.last_door.path, timeout=60.0, wait=60.0, backoff=QUICK)
         self.addCleanup(second.close)
         keys = orders(0, many)
 
@@ -262,9 +261,9 @@ class WholeTest(DoorTest):
     def test_keep_is_given_up_again(self) -> None:
         """A log that was shortened once tells so at each start, also without the option."""
         folder, books = self.folder(LARGE), Books()
-        with escrow.Site(folder, program=escrow_site(), keep=KEEP, timeout=20.0) as site:
+        with escrow.Site(folder, program=escrow_site(), keep=KEEP, timeout=60.0, wait=60.0) as site:
             asyncio.run(books.buy_all(escrow.AsyncSite(site), iter(orders(0, 3000)), 32))
-        site = self.served(folder, timeout=20.0)
+        site = self.served(folder, timeout=60.0)
         self.assertTrue(site.pipeline.may_forget)
         with self.assertRaises(Forgotten):
             site.change("stock", -1, key="order-0", since=books.since["order-0"])
@@ -288,7 +287,7 @@ class WholeTest(DoorTest):
     def ended_door(self, folder: str, *words: str) -> subprocess.CompletedProcess[str]:
         """A door that doesn't open."""
         words = ("-m", "escrow.door", folder, "--socket", f"{folder}.door", "--program", escrow_site(), *words)
-        return subprocess.run([sys.executable, *words], cwd=PACKAGES, capture_output=True, text=True, check=False, timeout=20)
+        return subprocess.run([sys.executable, *words], cwd=PACKAGES, capture_output=True, text=True, check=False, timeout=60)
 
 
 class ArchiveTest(DoorTest):
@@ -309,14 +308,14 @@ class ArchiveTest(DoorTest):
 
     def test_a_site(self) -> None:
         folder = self.folder(LARGE)
-        self.sell(self.served(folder, keep=KEEP, archive=True, timeout=20.0))
+        self.sell(self.served(folder, keep=KEEP, archive=True, timeout=60.0))
         self.verify(folder)
 
     def test_a_site_of_tasks(self) -> None:
         folder = self.folder(LARGE)
 
         async def sells() -> None:
-            async with escrow.AsyncSite(folder, program=escrow_site(), keep=KEEP, archive=True, timeout=20.0) as shop:
+            async with escrow.AsyncSite(folder, program=escrow_site(), keep=KEEP, archive=True, timeout=60.0, wait=60.0) as shop:
                 await Books().buy_all(shop, iter(orders(0, 3000)), 32)
 
         asyncio.run(sells())

@@ -21,7 +21,7 @@ KILLS = 30
 SELLER = """
 import os, sys, threading
 import programs, escrow
-site = escrow.Site(sys.argv[1], program=sys.argv[2])
+site = escrow.Site(sys.argv[1], program=sys.argv[2], wait=60.0)
 def tell(word, what):
     os.write(1, f"{word} {what}\\n".encode())
 def sell():
@@ -236,15 +236,19 @@ class StoppedTest(SiteTest):
         self.assertEqual({id for id, outcome in outcomes.items() if outcome is Outcome.COMMITTED}, kept)
 
     def run_and_kill(self, folder: str, seconds: float) -> list[list[str]]:
-        """What a client told that was killed so long after it stood."""
+        """What a client told that was killed so long after its second sale."""
         words = [sys.executable, "-S", "-c", SELLER, folder, escrow_site()]
         here = os.path.dirname(os.path.abspath(__file__))
         with subprocess.Popen(words, stdout=subprocess.PIPE, text=True, cwd=here) as client:
             assert client.stdout is not None
             self.assertEqual(client.stdout.readline().split()[0], "stands")
+            lines: list[str] = []
+            while sum(it.startswith("sold ") for it in lines) < 2 and (line := client.stdout.readline()):
+                lines.append(line)
             time.sleep(seconds)
             client.send_signal(signal.SIGKILL)
-            return [line.split() for line in client.stdout.read().split("\n")[:-1]]
+            lines += client.stdout.read().split("\n")[:-1]
+            return [line.split() for line in lines]
 
 
 class TaskTest(SiteTest):
@@ -273,14 +277,17 @@ class TaskTest(SiteTest):
 
         async def before(id: str) -> None:
             told.append(id)
-            await asyncio.sleep(30)
+            await asyncio.sleep(600)
 
         async def calls() -> None:
             shop = escrow.AsyncSite(site)
             with self.assertRaises(Slip):
                 await shop.change("stock", -3, before=slips)
+            sale = asyncio.create_task(shop.change("stock", -3, before=before))
+            while not told and not sale.done():
+                await asyncio.sleep(0.01)
             with self.assertRaises(asyncio.TimeoutError):
-                await asyncio.wait_for(shop.change("stock", -3, before=before), 0.2)
+                await asyncio.wait_for(sale, 0.01)
             with self.assertRaises(escrow.Short):
                 await shop.change("stock", -21, before=before)
 

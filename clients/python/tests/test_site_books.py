@@ -7,7 +7,7 @@ import shutil
 import time
 import unittest
 
-from programs import SiteTest, escrow_site, is_ended, of_shop, records
+from programs import LONG, SiteTest, escrow_site, is_ended, of_shop, records
 from test_site_stops import CUT
 import escrow
 
@@ -15,7 +15,7 @@ MUTE = """#!/bin/sh
 echo $$ > '{pid}'
 echo 'ready 1 2 4'
 echo '0 restart -> restarted 2 nothing'
-exec sleep 60
+exec sleep 600
 """
 """A program that stands, and answers nothing."""
 
@@ -41,8 +41,8 @@ class LastIdTest(SiteTest):
         """What a start is told that is refused for its log, at once."""
         began = time.monotonic()
         with self.assertRaises(escrow.Down) as raised:
-            escrow.Site(folder, program=escrow_site(), last_id=last_id)
-        self.assertLess(time.monotonic() - began, 5.0)
+            escrow.Site(folder, program=escrow_site(), last_id=last_id, wait=2 * LONG)
+        self.assertLess(time.monotonic() - began, LONG)
         self.assertEqual(raised.exception.status, 3)
         return str(raised.exception)
 
@@ -110,8 +110,8 @@ class LastIdTest(SiteTest):
         os.chmod(program, 0o755)
         folder, began = self.sold(1), time.monotonic()
         with self.assertRaises(escrow.Down) as raised:
-            escrow.Site(folder, program=program, last_id=of_shop("1.1"), wait=0.5)
-        self.assertLess(time.monotonic() - began, 5.0)
+            escrow.Site(folder, program=program, last_id=of_shop("1.1"), wait=3.0)  # in which it stands
+        self.assertLess(time.monotonic() - began, LONG)
         self.assertIn("wasn't answered in time", str(raised.exception))
         with open(pid, encoding="ascii") as file:
             self.assertTrue(is_ended(int(file.read())))

@@ -3,6 +3,7 @@
 from __future__ import annotations
 
 import asyncio
+import concurrent.futures
 import os
 import threading
 import unittest
@@ -122,7 +123,7 @@ class CallTest(SiteTest):
 
         site.on_statement.append(hear)
         site.give(1, "stock", Kind.RAISE, 2)
-        self.assertTrue(come.wait(10))
+        self.assertTrue(come.wait(60))
         self.assertEqual(heard[0], Statement(0, 1, "stock", Kind.RAISE, 2))
 
     def test_a_trace_is_kept_where_it_is_asked_for(self) -> None:
@@ -237,6 +238,33 @@ class AsyncCallTest(SiteTest):
         self.assertEqual(len(got), 64 * 5 + 8 * 5)
         self.assertEqual(commits(site.folder, LARGE), {id: (("stock", change),) for id, change in got})
 
+    def test_what_blocks_does_not_wait_for_the_threads_of_the_loop(self) -> None:
+        """All of which others have taken, for longer than any time limit: else `close` would wait for what waits for the site."""
+        site, ends = self.site(), threading.Event()
+
+        async def calls() -> None:
+            shop = escrow.AsyncSite(site)
+            asyncio.get_running_loop().set_default_executor(concurrent.futures.ThreadPoolExecutor(1))
+            held = asyncio.create_task(asyncio.to_thread(ends.wait, 60.0))
+            await asyncio.sleep(0)
+            statement = await shop.give(1, "stock", Kind.LOWER, 4, timeout=50.0)
+            self.assertEqual((await shop.spare(1, "stock", Kind.RAISE, 2)).amount, 2)
+            self.assertEqual(await shop.restate(1, "stock", Kind.LOWER), statement)
+            self.assertEqual(await shop.tighten("stock", Kind.LOWER, 1), 1)
+            self.assertEqual((await shop.newest_mark()).epoch, 1)
+            gives = asyncio.create_task(shop.give(1, "stock", Kind.LOWER, 1))
+            await asyncio.sleep(0)
+            gives.cancel()  # it is given all the same, and nobody is told
+            with self.assertRaises(asyncio.CancelledError):
+                await gives
+            await shop.close()
+            self.assertFalse(held.done())
+            ends.set()
+            await held
+
+        asyncio.run(calls())
+        wait_until(lambda: not any(it.name == "escrow task" for it in threading.enumerate()))
+
     def test_one_loop_each(self) -> None:
         site = self.site()
         shop = escrow.AsyncSite(site)
@@ -349,7 +377,7 @@ class RefusalTest(SiteTest):
         # A place is left for a change in one trip.
         site.change("stock", 1)
         held[0].abort()
-        waits.join(10)
+        waits.join(60)
         self.assertFalse(waits.is_alive())
         self.assertNotEqual(late.id, "")
 

@@ -14,7 +14,7 @@ import unittest.mock
 from typing import Optional
 
 from doors import DoorTest
-from programs import LARGE, SHOP, TOP, SiteTest, commits, escrow_site, of_large, wait_until
+from programs import LARGE, LONG, SHOP, TOP, SiteTest, commits, escrow_site, of_large, wait_until
 import escrow
 from escrow import DeviceFault, Outcome, Share
 from escrow.device import device_fault
@@ -95,7 +95,7 @@ class FullTest(DiskTest):
         self.assertIn('escrow_device_faults_total{site="0",file="log",call="write",reason="No space left on device",number="28"} 1\n',
                       text_of([metrics]))
         self.make_room()
-        wait_until(lambda: site.up, 10.0)
+        wait_until(lambda: site.up)
         self.assertEqual({site.outcome(id) for id in sold}, {Outcome.COMMITTED})
         assert fault.id is not None
         kept = site.outcome(fault.id) is Outcome.COMMITTED
@@ -139,7 +139,7 @@ class FullTest(DiskTest):
             wait_until(lambda: site.up and len(sold) > before + 20)
         is_over.set()
         for thread in threads:
-            thread.join(20.0)
+            thread.join(LONG)
         self.assertEqual(site.share("stock"), Share(500_000 - len(sold), 500_000 + len(sold)))
         self.assertEqual(site.open, 0)
         site.close()
@@ -151,8 +151,8 @@ class FullTest(DiskTest):
         self.fill()
         self.sell_until_full(site)
         began = time.monotonic()
-        site.close()
-        self.assertLess(time.monotonic() - began, 5.0)
+        site.close(2 * LONG)
+        self.assertLess(time.monotonic() - began, LONG)
         with self.assertRaises(escrow.Down):
             site.read("stock")
 
@@ -177,16 +177,23 @@ class StartTest(DiskTest):
         folder = self.full()
         began = time.monotonic()
         with self.assertRaises(escrow.Down) as raised:
-            escrow.Site(folder, program=escrow_site(), wait=1.2)
-        self.assertLess(time.monotonic() - began, 4.0)
+            escrow.Site(folder, program=escrow_site(), wait=4.0)  # in which it is tried once
+        self.assertLess(time.monotonic() - began, 4.0 + LONG)
         self.assertEqual(raised.exception.status, 5)
         self.assertIn(FULL, str(raised.exception))
-        room = threading.Timer(0.7, self.make_room)
+        metrics = Metrics(0)
+        room = threading.Thread(target=self.make_room_behind_a_stop, args=(metrics,))
         room.start()
-        site = self.served(folder)
+        site = self.served(folder, metrics=metrics)
         room.join()
         self.assertEqual(site.counts.stops, 1)
         self.assertIsInstance(site.change("stock", -1), str)
+
+    def make_room_behind_a_stop(self, metrics: Metrics) -> None:
+        """Once a start has failed."""
+        wait_until(lambda: 'escrow_stops_total{site="0",status="5"} 1\n' in text_of([metrics]))
+        time.sleep(0.7)
+        self.make_room()
 
 
 class RoomTest(DiskTest):
@@ -238,7 +245,7 @@ class RoomTest(DiskTest):
         _, fault = self.sell_until_full(site)
         with self.assertRaises(escrow.Down) as down:
             site.read("stock")
-        self.assertLess(time.monotonic() - began, 10.0)
+        self.assertLess(time.monotonic() - began, LONG)
         self.assertEqual(down.exception.status, 5)
         self.assertEqual(down.exception.device, DeviceFault("log", "write", "File too large", errno.EFBIG))
         for text in (str(fault), str(down.exception)):
@@ -278,7 +285,7 @@ class LimitTest(DoorTest):
     def test_a_door_tells_it(self) -> None:
         door = self.door(LARGE, program=self.limited())
         self.sell_until_fault(self.connected(door, patience=0.2))
-        self.assertEqual(door.process.wait(20), 5)
+        self.assertEqual(door.process.wait(LONG), 5)
         self.assertIn("device fault: write: File too large", door.text())
 
     def test_create_tells_it(self) -> None:
@@ -375,10 +382,8 @@ class SyncTest(SiteTest):
             refused += 1
             self.assertEqual(fault.device, REFUSED)
             self.assertIn("start the machine anew", str(fault))
-            time.sleep(0.2)
-            text = text_of([metrics])
-            self.assertIn(sample, text)
-            self.assertIn('escrow_stops_total{site="0",status="5"} 1\n', text)
+            wait_until(lambda: sample in text_of([metrics]))  # it is counted behind what its callers are told
+            self.assertIn('escrow_stops_total{site="0",status="5"} 1\n', text_of([metrics]))
         self.assertIsNone(fault)
         self.assertGreater(refused, 1)
 

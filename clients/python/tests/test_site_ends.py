@@ -15,6 +15,7 @@ import unittest.mock
 
 from programs import (
     LARGE,
+    LONG,
     SHOP,
     Act,
     SiteTest,
@@ -51,8 +52,8 @@ class TwoTest(SiteTest):
         site = self.site()
         began = time.monotonic()
         with self.assertRaises(escrow.Down) as raised:
-            escrow.Site(site.folder, program=escrow_site())
-        self.assertLess(time.monotonic() - began, 1.0)
+            escrow.Site(site.folder, program=escrow_site(), wait=2 * LONG)
+        self.assertLess(time.monotonic() - began, LONG)
         self.assertEqual(raised.exception.status, 6)
         site.change("stock", -1)
         site.close()
@@ -66,7 +67,7 @@ class TwoTest(SiteTest):
             assert other.stdout is not None and other.stdin is not None
             other.stdout.readline()
             with self.assertRaises(escrow.Down) as raised:
-                escrow.Site(folder, program=escrow_site(), wait=0.3)
+                escrow.Site(folder, program=escrow_site(), wait=3.0)  # in which it is tried once
             self.assertEqual(raised.exception.status, 6)
             self.assertIn("in use", str(raised.exception))
             other.stdin.close()
@@ -91,12 +92,12 @@ class TwoTest(SiteTest):
                 site.change("stock", -1)
             except escrow.Down:
                 site.close()  # it isn't the fork's to close
-                time.sleep(30)
+                time.sleep(600)
             os._exit(1)
         try:
             site.change("stock", -1)
-            site.close(5.0)
-            wait_until(lambda: is_ended(pid), 5.0)
+            site.close(LONG)
+            wait_until(lambda: is_ended(pid))
             self.assertEqual(site.last_status, 0)
             self.assertEqual(self.served(site.folder).epoch, 2)
             self.assertEqual(os.waitpid(child, os.WNOHANG), (0, 0))
@@ -129,10 +130,15 @@ class CloseTest(SiteTest):
             except escrow.Down as fault:
                 told.append(str(fault))
 
+        async def closes() -> None:
+            while not sold and len(told) == 0:
+                await asyncio.sleep(0.01)
+            await asyncio.sleep(0.3)
+            site.close(LONG)
+
         async def calls() -> None:
             shop = escrow.AsyncSite(site)
-            asyncio.get_running_loop().call_later(0.3, site.close)
-            await asyncio.gather(*(sells(shop) for _ in range(32)))
+            await asyncio.gather(closes(), *(sells(shop) for _ in range(32)))
 
         threads = [threading.Thread(target=waits) for _ in range(8)]
         for thread in threads:
@@ -191,18 +197,51 @@ class CloseTest(SiteTest):
             site.outcome(of_shop("1.1"))
         site.change("stock", -1)
         site.pipeline.submit((call,))
-        closes = threading.Thread(target=site.close, args=(20.0,))
+        closes = threading.Thread(target=site.close, args=(LONG,))
         closes.start()
         wait_until(lambda: site.pipeline.dead)
         site.pipeline.flush()
-        closes.join(10)
+        closes.join(LONG)
         self.assertFalse(closes.is_alive())
         self.assertEqual((waiter.wait(), site.last_status), (Outcome.COMMITTED, 0))
+
+    def test_lines_of_one_that_comes_as_the_input_is_ended_go_out_ahead(self) -> None:
+        """It finds another one at the pipe, who ends its input, and leaves that one its lines."""
+        site, came = self.site(), threading.Event()
+        call = Kept(of_shop("1.1"), "1.1")
+        waiter = call.waiter = ThreadWaiter()
+        site.change("stock", -1)
+        site.pipeline.submit((call,))
+        site.pipeline.die(escrow.Down("the site was closed"))
+        finish = site.pipeline.finish
+
+        def finishes() -> None:
+            came.set()
+            finish()
+
+        with unittest.mock.patch.object(site.pipeline, "finish", finishes):
+            asks = threading.Thread(target=site.pipeline.flush)
+            with site.pipeline._writing:
+                asks.start()
+                self.assertTrue(came.wait(20))  # it has found the pipe in use
+            asks.join()
+        self.assertTrue(waiter.comes(20))
+        self.assertIs(waiter.wait(), Outcome.COMMITTED)
+        wait_until(lambda: site.last_status is not None)
+        self.assertEqual(site.last_status, 0)
+
+    def test_nothing_is_open_behind_its_end(self) -> None:
+        site = self.site()
+        for _ in range(2):
+            site.transaction().lower("stock", 1)
+        self.assertEqual(site.open, 2)
+        site.close()
+        self.assertEqual((site.open, site.unanswered), (0, 0))
 
     def test_the_last_client_to_go_takes_the_process_along(self) -> None:
         lines = f"import programs, escrow, os\ns = escrow.Site({self.folder()!r}, {escrow_site()!r})\nos.write(1, b'%d' % s.pid)\n"
         here = os.path.dirname(FAKE)
-        told = subprocess.run([sys.executable, "-S", "-c", lines], cwd=here, capture_output=True, check=True, timeout=30).stdout
+        told = subprocess.run([sys.executable, "-S", "-c", lines], cwd=here, capture_output=True, check=True, timeout=LONG).stdout
         wait_until(lambda: is_ended(int(told)))
 
 
@@ -259,7 +298,7 @@ class PipeTest(SiteTest):
             asked = [asyncio.create_task(shop.change("stock", -1)) for _ in range(many)]
             await asyncio.sleep(0.05)
             asyncio.get_running_loop().call_later(0.1, os.kill, pid, signal.SIGCONT)
-            await asyncio.to_thread(site.close)
+            await asyncio.to_thread(site.close, LONG)
             return await asyncio.gather(*asked)
 
         self.assertEqual(len(asyncio.run(calls())), many)

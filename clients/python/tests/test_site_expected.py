@@ -42,10 +42,10 @@ class AsyncWithTest(SiteTest):
         folder = self.folder()
 
         async def calls() -> tuple[str, escrow.Site]:
-            async with escrow.AsyncSite(folder, program=escrow_site(), wait=5.0, timeout=5.0) as shop:
+            async with escrow.AsyncSite(folder, program=escrow_site(), wait=60.0, timeout=60.0) as shop:
                 async with shop.transaction() as t:
                     await t.lower("stock", 3)
-                self.assertEqual((shop.timeout, shop.site.up), (5.0, True))
+                self.assertEqual((shop.timeout, shop.site.up), (60.0, True))
                 return t.id, shop.site
 
         id, site = asyncio.run(calls())
@@ -102,8 +102,8 @@ class CreateTest(SiteTest):
 
     def test_a_script_that_runs_twice(self) -> None:
         for epoch in (1, 2):
-            site = self.made(exist_ok=True, timeout=5.0)
-            self.assertEqual((site.epoch, site.timeout, site.change("stock", -1)), (epoch, 5.0, of_shop(f"{epoch}.1")))
+            site = self.made(exist_ok=True, timeout=60.0)
+            self.assertEqual((site.epoch, site.timeout, site.change("stock", -1)), (epoch, 60.0, of_shop(f"{epoch}.1")))
             site.close()
         with self.assertRaises(escrow.ProgramError) as raised:
             self.made()
@@ -326,9 +326,9 @@ class TestingTest(SiteTest):
             with open(f"/proc/{site.pid}/cmdline", encoding="ascii") as file:
                 self.assertIn("--no-sync", file.read().split("\0"))
         self.assertFalse(os.path.exists(folder))
-        with temporary_world(SHOP, program=escrow_site(), timeout=5.0) as (near, far):
+        with temporary_world(SHOP, program=escrow_site(), timeout=60.0) as (near, far):
             self.assertEqual(far.accept(near.give(1, "stock", escrow.Kind.LOWER, 5)), 5)
-            self.assertEqual((near.share("stock"), far.share("stock"), far.timeout), (Share(15, 30), Share(25, 30), 5.0))
+            self.assertEqual((near.share("stock"), far.share("stock"), far.timeout), (Share(15, 30), Share(25, 30), 60.0))
         self.assertFalse(near.up or far.up)
 
     @unittest.skipUnless(importlib.util.find_spec("pytest"), "pytest isn't there: python3-pytest of Debian")
@@ -339,7 +339,7 @@ class TestingTest(SiteTest):
                 file.write(text)
         words = [sys.executable, "-W", "error", "-m", "pytest", "-q", "-p", "no:cacheprovider", self.place]
         env = {**os.environ, "PYTHONPATH": PACKAGES, "ESCROW_SITE": escrow_site()}
-        told = subprocess.run(words, cwd=self.place, env=env, capture_output=True, text=True, check=False, timeout=100)
+        told = subprocess.run(words, cwd=self.place, env=env, capture_output=True, text=True, check=False, timeout=300)
         self.assertEqual(told.returncode, 0, told.stdout + told.stderr)
         self.assertIn("3 passed", told.stdout)
 

@@ -18,7 +18,7 @@ from enum import Enum
 from fractions import Fraction
 from typing import Union
 
-from programs import LARGE, PACKAGES, SHOP, WORLD, Act, SiteTest, commits, escrow_site, kill, of_shop, wait_until
+from programs import LARGE, LONG, PACKAGES, SHOP, WORLD, Act, SiteTest, commits, escrow_site, kill, of_shop, wait_until
 import escrow
 from escrow import Cause, Outcome, Refusal, Share
 
@@ -54,7 +54,7 @@ class PlacesTest(SiteTest):
             site.transaction(0.05).lower("stock", 1)
         thread = self.waits(site, sold)
         held[0].abort()
-        thread.join(5.0)
+        thread.join(LONG)
         self.assertEqual((len(sold), site.open, site.unanswered), (1, 62, 0))
 
     def test_a_live_one_behind_one_that_expires_as_it_waits(self) -> None:
@@ -63,7 +63,7 @@ class PlacesTest(SiteTest):
 
         def expires() -> None:
             try:
-                site.transaction(1.0).lower("stock", 1)
+                site.transaction(5.0).lower("stock", 1)
             except escrow.Over as fault:
                 faults.append(fault)
 
@@ -72,9 +72,9 @@ class PlacesTest(SiteTest):
         first.start()
         wait_until(lambda: site.unanswered == 1)
         thread = self.waits(site, sold)
-        first.join(5.0)
+        first.join(LONG)
         held[0].abort()
-        thread.join(5.0)
+        thread.join(LONG)
         self.assertEqual((len(faults), len(sold), site.open, site.unanswered), (1, 1, 62, 0))
 
     def test_a_live_one_behind_ones_that_were_aborted_as_they_waited(self) -> None:
@@ -96,7 +96,7 @@ class PlacesTest(SiteTest):
         for t in gone:
             t.abort()
         held[0].abort()
-        thread.join(5.0)
+        thread.join(LONG)
         self.assertEqual((len(sold), site.open, site.unanswered), (1, 62, 0))
         wait_until(lambda: len(faults) == 3)
 
@@ -112,11 +112,11 @@ class PlacesTest(SiteTest):
             shop = escrow.AsyncSite(site)
             gone = [asyncio.ensure_future(buys(shop, 0.05)) for _ in range(63)]
             await asyncio.sleep(0.02)
-            live = asyncio.ensure_future(buys(shop, 10.0))
+            live = asyncio.ensure_future(buys(shop, 2 * LONG))
             told = await asyncio.gather(*gone, return_exceptions=True)
             for t in held:
                 await asyncio.to_thread(t.abort)
-            done, _ = await asyncio.wait([live], timeout=5.0)
+            done, _ = await asyncio.wait([live], timeout=LONG)
             return sum(isinstance(it, asyncio.TimeoutError) for it in told), live.result() if done else "it waits still"
 
         gave_up, id = asyncio.run(calls())
@@ -283,7 +283,7 @@ class EndsTest(SiteTest):
     def test_what_ended_it_otherwise_is_told(self) -> None:
         site = self.site()
         with self.assertRaises(escrow.Over) as raised:
-            with site.transaction(0.05) as t:
+            with site.transaction(1.0) as t:
                 t.lower("stock", 3)
                 wait_until(lambda: site.open == 0)
         self.assertEqual((raised.exception.id, raised.exception.cause), (t.id, Cause.EXPIRED))

@@ -4,6 +4,7 @@ from __future__ import annotations
 
 import asyncio
 import contextvars
+import errno
 import os
 import random
 import signal
@@ -15,7 +16,7 @@ from collections.abc import Callable
 from typing import Any
 
 from forgetful_site import tell
-from programs import LARGE, SHOP, Killer, SiteTest, commits, escrow_site, kill, of_large, of_shop, pid_of, wait_until
+from programs import LARGE, LONG, SHOP, Killer, SiteTest, commits, kill, of_large, of_shop, pid_of, stand_still, wait_until
 import escrow
 from escrow import Outcome, Refusal
 from escrow.calls import Change
@@ -37,7 +38,7 @@ def is_lent(site: escrow.Site) -> bool:
 
 async def lend(site: escrow.Site, shop: escrow.AsyncSite) -> None:
     """Asks until the loop reads."""
-    end = time.monotonic() + 20
+    end = time.monotonic() + LONG
     while not is_lent(site):
         assert time.monotonic() < end, "it was never lent"
         await shop.read("stock")
@@ -56,7 +57,7 @@ async def sell(shop: escrow.AsyncSite, times: int, told: list[str], tasks: int =
 
 async def until(holds: Callable[[], object]) -> None:
     """Waits until this holds."""
-    end = time.monotonic() + 20
+    end = time.monotonic() + LONG
     while not holds():
         assert time.monotonic() < end, "it didn't come in time"
         await asyncio.sleep(0.005)
@@ -100,7 +101,7 @@ class TurnTest(SiteTest):
             await asyncio.sleep(0)
             await asyncio.sleep(0)
             threading.Thread(target=reads).start()
-            self.assertTrue(come.wait(20))  # it holds up the loop
+            self.assertTrue(come.wait(LONG))  # it holds up the loop
             self.assertEqual(site.change("stock", -1), of_large("1.2"))  # so does this
             self.assertEqual(await asked, of_large("1.1"))
 
@@ -110,8 +111,7 @@ class TurnTest(SiteTest):
         site, told = self.site(LARGE), list[str]()
         for _ in range(3):
             shop = escrow.AsyncSite(site)
-            asyncio.run(lend(site, shop))
-            self.assertTrue(is_lent(site))
+            asyncio.run(lend(site, shop))  # it is lent
             self.assertGreater(site.read("stock").hi, 0)
             asyncio.run(sell(shop, 2, told))
         shop = escrow.AsyncSite(site)
@@ -121,17 +121,50 @@ class TurnTest(SiteTest):
         self.assertEqual(len(set(told)), 8 * WIDE)
         self.assertEqual((set(commits(site.folder, LARGE)), site.last_status), (set(told), 0))
 
+    def test_what_is_answered_behind_the_end_of_a_loop_is_read(self) -> None:
+        """Its task was cancelled, and nobody else asks."""
+        site = self.site(LARGE)
+
+        async def calls() -> str:
+            shop = escrow.AsyncSite(site)
+            await lend(site, shop)
+            t = shop.transaction()
+            await t.lower("stock", 1)
+            stand_still(pid_of(site))
+            commit = asyncio.create_task(t.commit())
+            await until(lambda: site.unanswered == 1)
+            self.assertTrue(is_lent(site))
+            return t.id
+
+        id = asyncio.run(calls())  # it cancels the commit
+        self.assertEqual(site.unanswered, 1)
+        os.kill(pid_of(site), signal.SIGCONT)
+        wait_until(lambda: site.unanswered == 0)
+        site.close()
+        self.assertEqual(list(commits(site.folder, LARGE)), [id])
+
     def test_a_loop_that_watches_no_pipe(self) -> None:
         site, told = self.site(LARGE), list[str]()
 
-        async def calls() -> None:
-            with unittest.mock.patch.object(asyncio.get_running_loop(), "add_reader", side_effect=NotImplementedError):
-                await sell(escrow.AsyncSite(site), 20, told)
+        async def calls(why: object) -> None:
+            with unittest.mock.patch.object(asyncio.get_running_loop(), "add_reader", side_effect=why):
+                await asyncio.wait_for(sell(escrow.AsyncSite(site), 20, told), 30)
             await until(lambda: not is_lent(site))
 
-        asyncio.run(calls())
+        asyncio.run(calls(NotImplementedError))
+        asyncio.run(calls(OSError(errno.ENOSPC, "it watches too many")))
+        site.close()
+        self.assertEqual((len(told), set(told)), (40 * WIDE, set(commits(site.folder, LARGE))))
+
+    def test_a_thread_reads_where_no_descriptor_is_free_for_the_loop(self) -> None:
+        site, told = self.site(LARGE), list[str]()
+        with unittest.mock.patch("os.dup", side_effect=OSError(errno.EMFILE, os.strerror(errno.EMFILE))):
+            asyncio.run(sell(escrow.AsyncSite(site), 20, told))
+            self.assertFalse(is_lent(site))
+        asyncio.run(lend(site, escrow.AsyncSite(site)))
         site.close()
         self.assertEqual((len(told), set(told)), (20 * WIDE, set(commits(site.folder, LARGE))))
+        self.assertEqual(site.counts.stops, 1)
 
     def test_two_loops_and_a_thread_at_once(self) -> None:
         site = self.site(LARGE)
@@ -158,7 +191,7 @@ class TurnTest(SiteTest):
             await lend(site, shop)
             asked = [asyncio.create_task(shop.change("stock", -1)) for _ in range(2000)]  # more answers than a pipe holds
             await until(lambda: site.unanswered < 2000)
-            site.close(20.0)
+            site.close(LONG)
             return await asyncio.gather(*asked, return_exceptions=True)
 
         told = asyncio.run(calls())
@@ -175,7 +208,7 @@ class StopTest(SiteTest):
 
         async def calls(killer: Killer) -> None:
             shop, turns = escrow.AsyncSite(site), 0
-            while killer.at_work or not is_lent(site):
+            while killer.at_work or not (turns and is_lent(site)):
                 await sell(shop, 3, told)
                 turns += is_lent(site)
             self.assertGreater(turns, 0)
@@ -194,7 +227,7 @@ class StopTest(SiteTest):
             t, u = shop.transaction(), shop.transaction()
             await t.lower("stock", 1)
             await u.lower("stock", 1)
-            os.kill(pid_of(site), signal.SIGSTOP)
+            stand_still(pid_of(site))
             changes = [asyncio.create_task(shop.change("stock", -1)) for _ in range(3)]
             commit = asyncio.create_task(u.commit())
             await until(lambda: site.unanswered == 4)
@@ -312,7 +345,7 @@ class AnswerTest(SiteTest):
         async def calls() -> None:
             shop = escrow.AsyncSite(site)
             await lend(site, shop)
-            os.kill(pid_of(site), signal.SIGSTOP)
+            stand_still(pid_of(site))
             late = asyncio.create_task(shop.change("stock", -1))
             await asyncio.sleep(0)  # it asks first, in each version of Python
             with self.assertRaises(asyncio.TimeoutError):
@@ -339,7 +372,7 @@ class AnswerTest(SiteTest):
         async def calls() -> None:
             shop = escrow.AsyncSite(site)
             await lend(site, shop)
-            t = shop.transaction(seconds=0.05)
+            t = shop.transaction(seconds=1.0)
             await t.lower("stock", 20)
             await until(lambda: t.state.value == "expired" and site.unanswered == 0)
             with self.assertRaises(escrow.Over):
@@ -444,14 +477,14 @@ class PaceTest(SiteTest):
     def test_what_is_held_goes_out_behind_an_answer_that_nobody_waits_for(self) -> None:
         """It waits for more answers, and the last of them is of a call whose time was up."""
         folder = self.folder()
-        site = escrow.Site(folder, program=SLOW, timeout=10.0)
+        site = escrow.Site(folder, program=SLOW, timeout=LONG, wait=LONG)
         self.addCleanup(site.close)
 
         async def asks() -> list[object]:
             shop = escrow.AsyncSite(site)
             id = await shop.change("stock", -3)
             await lend(site, shop)
-            tell(folder, slow=0.5)
+            tell(folder, slow=3.0)
 
             async def two() -> object:
                 await shop.share("stock")
@@ -463,6 +496,34 @@ class PaceTest(SiteTest):
 
         share, fault = asyncio.run(asks())
         self.assertEqual((share, type(fault)), (escrow.Share(17, 33), escrow.Busy))
+
+    def test_what_is_held_goes_out_ahead_of_the_end_of_its_loop(self) -> None:
+        """A commit that waits for more answers, as its task and those of the others are cancelled: else it would stay open."""
+        folder = self.folder()
+        site = escrow.Site(folder, program=SLOW, wait=LONG)
+        self.addCleanup(site.close)
+
+        async def asks() -> None:
+            shop = escrow.AsyncSite(site)
+            id = await shop.change("stock", -3)
+            await lend(site, shop)
+            tell(folder, slow=3.0)
+
+            async def sells() -> None:
+                async with shop.transaction() as t:
+                    await t.lower("stock", 1)
+
+            sold, asked = asyncio.create_task(sells()), asyncio.create_task(shop.outcome(id))
+            await until(lambda: site.open == 1 and site.unanswered == 1)
+            await asyncio.sleep(0.05)
+            self.assertEqual((site.open, site.unanswered, is_lent(site)), (1, 1, True))
+            for task in (sold, asked):
+                task.cancel()
+            await asyncio.gather(sold, asked, return_exceptions=True)
+
+        asyncio.run(asks())
+        wait_until(lambda: site.open == 0 and site.unanswered == 0)
+        self.assertEqual(site.share("stock"), escrow.Share(16, 34))
 
     def test_what_is_held_goes_out_where_the_turn_ends(self) -> None:
         site = self.site(LARGE)

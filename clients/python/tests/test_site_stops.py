@@ -3,6 +3,8 @@
 from __future__ import annotations
 
 import asyncio
+import contextlib
+import errno
 import os
 import random
 import signal
@@ -11,6 +13,9 @@ import sys
 import threading
 import time
 import unittest
+import unittest.mock
+from collections.abc import Callable
+from typing import Any
 
 from programs import (
     LARGE,
@@ -25,6 +30,7 @@ from programs import (
     kill,
     of_large,
     of_shop,
+    pid_of,
     totals,
     wait_until,
 )
@@ -46,6 +52,11 @@ class Book:
         self.given = 0
         self.given_up = 0
         self._lock = threading.Lock()
+
+    @property
+    def is_short(self) -> bool:
+        """Whether so little is committed yet, as on a busy machine, that it would tell little."""
+        return len(self.committed) <= KILLS
 
     def commit(self, id: str, changes: Changes) -> None:
         """A commit was answered."""
@@ -74,7 +85,7 @@ class Book:
 def thread_at_work(site: escrow.Site, book: Book, killer: Killer, seed: int) -> None:
     """Does what a shop does, until the kills are over."""
     luck = random.Random(seed)
-    while killer.at_work:
+    while killer.at_work or book.is_short:
         amount, draw = luck.randint(1, 3), luck.random()
         if draw < 0.5:
             book.commit(site.change("stock", -amount), (("stock", -amount),))
@@ -103,7 +114,7 @@ def two_fields(site: escrow.Site, book: Book, amount: int) -> None:
 async def task_at_work(shop: escrow.AsyncSite, book: Book, killer: Killer, seed: int) -> None:
     """As a thread does."""
     luck = random.Random(seed)
-    while killer.at_work:
+    while killer.at_work or book.is_short:
         amount = luck.randint(1, 3)
         if luck.random() < 0.5:
             book.commit(await shop.change("stock", -amount), (("stock", -amount),))
@@ -202,11 +213,11 @@ class StopTest(SiteTest):
         site = self.site()
         starts: list[int] = []
         site.on_start.append(lambda: starts.append(site.epoch))
-        for _ in range(3):
+        for count in range(1, 4):
             epoch = site.epoch
             kill(site)
             self.wait_for_start(site, epoch)
-        wait_until(lambda: len(starts) == 3)
+            wait_until(lambda count=count: len(starts) == count)  # type: ignore[misc]  # it looks at the epoch as it runs
         self.assertEqual(starts, [2, 3, 4])
 
     def wait_for_start(self, site: escrow.Site, epoch: int) -> None:
@@ -344,6 +355,29 @@ class UnansweredTest(SiteTest):
         self.assertEqual(asyncio.run(sells()), of_shop("1.1"))
         self.assertEqual(site.outcome(of_shop("1.1")), Outcome.COMMITTED)
 
+    def test_a_commit_of_what_a_cancelled_task_has_set_aside_is_told(self) -> None:
+        """A stop loses it: so it isn't told as kept, as that of a transaction in which nothing was set aside."""
+        site = self.site()
+
+        async def sells() -> str:
+            t = escrow.AsyncSite(site).transaction()
+            os.kill(pid_of(site), signal.SIGSTOP)
+            sets_aside = asyncio.create_task(t.lower("stock", 3))
+            while not site.open:
+                await asyncio.sleep(0.005)
+            sets_aside.cancel()
+            await asyncio.gather(sets_aside, return_exceptions=True)
+            commit = asyncio.create_task(t.commit())
+            while site.unanswered < 2:
+                await asyncio.sleep(0.005)
+            kill(site)
+            with self.assertRaises(escrow.Lost) as raised:
+                await commit
+            return raised.exception.id or ""
+
+        self.assertEqual(asyncio.run(sells()), of_shop("1.1"))
+        self.assertEqual((site.outcome(of_shop("1.1")), site.share("stock")), (Outcome.NOT_COMMITTED, Share(20, 30)))
+
     def test_a_gift_is_given_once(self) -> None:
         site = self.cut(1)  # the restate that asks for the total before it
         heard: list[int] = []
@@ -369,6 +403,61 @@ class UnansweredTest(SiteTest):
         site = self.cut(0)
         self.assertEqual(site.accept(Statement(1, 0, "stock", Kind.LOWER, 4)), 0)
         self.assertEqual(site.share("stock"), Share(24, 30))
+
+
+class ScarceTest(SiteTest):
+    """No descriptor is free for a moment, as in a process that has very many connections."""
+
+    def lacking(self, function: Callable[..., Any], times: int) -> Callable[..., Any]:
+        """As this function, but so many times there is none for it."""
+        left = [OSError(errno.EMFILE, os.strerror(errno.EMFILE)) for _ in range(times)]
+
+        def calls(*words: Any, **options: Any) -> Any:
+            if left:
+                raise left.pop()
+            return function(*words, **options)
+
+        return calls
+
+    def test_its_next_process_is_started_once_there_is_one(self) -> None:
+        site = self.site(backoff=escrow.Backoff(0.01, 0.05))
+        with unittest.mock.patch("subprocess.Popen", self.lacking(subprocess.Popen, 3)):
+            kill(site)
+            self.assertEqual(site.change("stock", -1, timeout=20.0), of_shop("2.1"))
+        self.assertEqual((site.counts.starts, site.share("stock")), (2, Share(19, 31)))
+
+    def test_it_is_tried_again_where_there_is_no_thread_for_it(self) -> None:
+        site, start = self.site(backoff=escrow.Backoff(0.01, 0.05)), threading.Thread.start
+        left = [RuntimeError("can't start new thread") for _ in range(2)]
+
+        def starts(thread: threading.Thread) -> None:
+            if thread.name == "escrow site errors" and left:
+                raise left.pop()
+            start(thread)
+
+        with unittest.mock.patch.object(threading.Thread, "start", starts):
+            kill(site)
+            site.change("stock", -1, timeout=20.0)
+        self.assertEqual((left, site.counts.starts, site.share("stock")), ([], 2, Share(19, 31)))
+
+    def test_a_time_limit_ends_where_there_was_no_thread_for_one_before(self) -> None:
+        site = self.site(held=None)
+        no_thread = unittest.mock.patch.object(threading.Thread, "start", side_effect=RuntimeError("can't start new thread"))
+        with no_thread, self.assertRaises(RuntimeError):
+            site.transaction(seconds=0.05).lower("stock", 5)
+        t = site.transaction(seconds=0.2)
+        with contextlib.suppress(escrow.Over):  # it may come ahead of the answer
+            t.lower("stock", 5)
+        wait_until(lambda: t.state.value == "expired" and site.open == 0)
+        self.assertEqual(site.share("stock"), Share(20, 30))
+        site.close()
+
+    def test_a_process_that_can_not_be_used_is_followed_by_another(self) -> None:
+        site = self.site(backoff=escrow.Backoff(0.01, 0.05))
+        with unittest.mock.patch("os.dup", self.lacking(os.dup, 2)):
+            kill(site)
+            self.assertEqual(site.change("stock", -1, timeout=20.0), of_shop("4.1"))
+        self.assertEqual((site.counts.starts, site.share("stock")), (2, Share(19, 31)))
 
 
 class ClientKilledTest(SiteTest):
@@ -399,15 +488,18 @@ class ClientKilledTest(SiteTest):
         return dict(zip(ids, told))
 
     def run_and_kill(self, folder: str, seconds: float) -> list[tuple[str, str]]:
-        """What a client told that was killed so long after it stood."""
+        """What a client told that was killed so long after its second sale."""
         words = [sys.executable, "-S", SELLER, folder, escrow_site()]
         with subprocess.Popen(words, stdout=subprocess.PIPE, text=True) as client:
             assert client.stdout is not None
             first = client.stdout.readline().split()
             self.assertEqual(first[0], "stands")
+            whole: list[str] = []
+            while sum(it.startswith("sold ") for it in whole) < 2 and (line := client.stdout.readline()):
+                whole.append(line)
             time.sleep(seconds)
             client.send_signal(signal.SIGKILL)
-            whole = client.stdout.read().split("\n")[:-1]
+            whole += client.stdout.read().split("\n")[:-1]
         return [(line.split()[0], line.split()[1]) for line in whole]
 
 
@@ -416,7 +508,7 @@ class LimitTest(SiteTest):
 
     def test_what_was_set_aside_comes_back(self) -> None:
         site = self.site()
-        t = site.transaction(0.05)
+        t = site.transaction(1.0)
         t.lower("stock", 20)
         wait_until(lambda: site.open == 0)
         with self.assertRaises(escrow.Over) as raised:
@@ -427,9 +519,9 @@ class LimitTest(SiteTest):
 
     def test_it_ends_in_time(self) -> None:
         site = self.site()
-        with site.transaction(0.2) as t:
+        with site.transaction(3.0) as t:
             t.lower("stock", 3)
-        time.sleep(0.3)
+        time.sleep(3.1)
         self.assertEqual(site.outcome(t.id), Outcome.COMMITTED)
         self.assertEqual(site.share("stock"), Share(17, 33))
 

@@ -11,15 +11,20 @@ import signal
 import threading
 import time
 import unittest
+import unittest.mock
 from collections.abc import Awaitable, Callable, Iterator
 from contextlib import contextmanager
 from typing import Union
 
-from programs import LARGE, SHOP, Act, SiteTest, commits, escrow_site, kill, pid_of, totals, wait_until
+from programs import LARGE, LONG, SHOP, Act, SiteTest, commits, kill, pid_of, stand_still, totals, wait_until
 import escrow
 from escrow import Kind, Outcome, Share, Statement
+from escrow.asking import ask
+from escrow.calls import Call
+from escrow.pipeline import Pipeline
+from escrow.waiters import ThreadWaiter
 
-LIMIT = 0.2
+LIMIT = 0.5
 ACCEPTED = Statement(1, 0, "stock", Kind.LOWER, 1)
 Ask = Callable[[escrow.AsyncSite], Awaitable[object]]
 
@@ -28,7 +33,7 @@ Ask = Callable[[escrow.AsyncSite], Awaitable[object]]
 def still(site: escrow.Site) -> Iterator[None]:
     """The site's process stands still meanwhile."""
     pid = pid_of(site)
-    os.kill(pid, signal.SIGSTOP)
+    stand_still(pid)
     try:
         yield
     finally:
@@ -165,6 +170,24 @@ class StillTest(TimeTest):
         self.assertEqual(site.share("stock"), Share(11, 23))
 
 
+    def test_a_step_whose_thread_is_interrupted_is_not_taken_for_the_next(self) -> None:
+        """As by Ctrl-C: it was made, nobody heard of it, and the next one is made though a kill loses it."""
+        site = self.site()
+
+        def interrupted(pipeline: Pipeline, call: Call[object], end: float) -> None:
+            ask(pipeline, call, end)
+            raise KeyboardInterrupt
+
+        steps: list[Callable[[int], int]] = [lambda many: site.give(1, "stock", Kind.LOWER, many).total]
+        steps.append(lambda many: site.tighten("stock", Kind.LOWER, many))
+        for step in steps:
+            self.assertEqual(step(1), 1)
+            with unittest.mock.patch("escrow.steps.ask", interrupted), self.assertRaises(KeyboardInterrupt):
+                step(3)
+            self.assertEqual(self.interrupted(site, lambda: step(2), lambda: kill(site)), 6)
+        self.assertEqual(site.share("stock"), Share(8, 30))
+
+
 class StillTransactionTest(TimeTest):
     """A transaction over a serve that stands still."""
 
@@ -209,7 +232,7 @@ class StillTransactionTest(TimeTest):
 
         def before(id: str) -> None:
             told.append(id)
-            os.kill(pid_of(site), signal.SIGSTOP)
+            stand_still(pid_of(site))
 
         fault = self.late(lambda: site.change("stock", -1, before=before, timeout=2.0), escrow.Unknown)
         os.kill(pid_of(site), signal.SIGCONT)
@@ -221,7 +244,7 @@ class StillTransactionTest(TimeTest):
         site = self.site()
 
         def before(_: str) -> None:
-            os.kill(pid_of(site), signal.SIGSTOP)
+            stand_still(pid_of(site))
             raise escrow.Down("its own")
 
         ways: list[Callable[[], object]] = [lambda: self.late(lambda: site.change("stock", -1, before=before, timeout=2.0), escrow.Down)]
@@ -334,7 +357,7 @@ class WaitTest(TimeTest):
             thread.start()
             thread.join(3 * LIMIT)
             self.assertTrue(thread.is_alive())
-        thread.join(5.0)
+        thread.join(LONG)
         self.assertEqual(told, [Share(20, 30)])
 
     def test_limits_under_kills_and_stops_sell_as_told(self) -> None:
@@ -343,8 +366,12 @@ class WaitTest(TimeTest):
         doubted: list[str] = []
         end = time.monotonic() + 3.0
 
+        def goes_on() -> bool:
+            now = time.monotonic()
+            return now < end or (not doubted and now < end + LONG)  # on a busy machine little goes out in time
+
         async def sells(shop: escrow.AsyncSite, by_change: bool) -> None:
-            while time.monotonic() < end:
+            while goes_on():
                 try:
                     if by_change:
                         sold.append(await shop.change("stock", -1))
@@ -362,7 +389,7 @@ class WaitTest(TimeTest):
             await asyncio.gather(*(sells(shop, place % 2 == 0) for place in range(16)))
 
         def meddles() -> None:
-            while time.monotonic() < end:
+            while goes_on():
                 with still(site):
                     time.sleep(0.05)
                 time.sleep(0.05)
@@ -375,7 +402,7 @@ class WaitTest(TimeTest):
         asyncio.run(calls())
         thread.join()
         wait_until(lambda: site.unanswered == 0 and site.open == 0)
-        outcomes = {id: site.outcome(id, timeout=20.0) for id in {*sold, *doubted}}
+        outcomes = {id: site.outcome(id, timeout=LONG) for id in {*sold, *doubted}}
         site.close()
         kept = commits(site.folder, LARGE)
         self.assertGreater(len(doubted), 0)
@@ -406,7 +433,7 @@ class BoundTest(TimeTest):
         for t in held[1:]:
             t.abort()
         for thread in threads:
-            thread.join(5.0)
+            thread.join(LONG)
         late.lower("stock", 1)
         late.commit()
         self.assertEqual((site.open, site.unanswered, site.share("stock").lower), (0, 0, 499_995))
@@ -415,6 +442,50 @@ class BoundTest(TimeTest):
         """A transaction of a thread."""
         with site.transaction() as t:
             t.lower("stock", 1)
+
+    def test_a_task_whose_time_is_up_as_it_is_told_that_it_is_one_too_many(self) -> None:
+        """Its answer is under way to it: it is that, and the task can be cancelled as any other."""
+        site, faults = self.site(most_waiting=1), list[object]()
+
+        async def calls(shop: escrow.AsyncSite, is_cancelled: bool) -> object:
+            loop = asyncio.get_running_loop()
+            loop.set_exception_handler(lambda _, context: faults.append(context))
+            with still(site):
+                first = asyncio.create_task(shop.read("stock"))
+                while not site.unanswered:
+                    await asyncio.sleep(0.005)
+                late = asyncio.create_task(shop.change("stock", -1, timeout=0.5))
+                if is_cancelled:
+                    loop.call_later(0.7, late.cancel)
+                await asyncio.sleep(0)  # it asks, and its line goes out in the next turn: in that one its time is up too
+                time.sleep(1.0)
+                told = (await asyncio.gather(late, return_exceptions=True))[0]
+            await first
+            return type(told)
+
+        async def both() -> list[object]:
+            shop = escrow.AsyncSite(site)
+            return [await calls(shop, False), await calls(shop, True)]
+
+        self.assertEqual((asyncio.run(both()), faults), ([escrow.Busy, asyncio.CancelledError], []))
+        self.assertEqual(site.share("stock"), Share(20, 30))
+
+    def test_a_thread_whose_time_is_up_as_the_site_is_given_up(self) -> None:
+        """It is told what it was told first, and not that it was asked."""
+        gate = self.gated(patience=60.0)
+        gate.stop()
+        site, comes = gate.site, ThreadWaiter.comes
+
+        def comes_late(waiter: ThreadWaiter, seconds: float) -> bool:
+            self.assertFalse(comes(waiter, 0.0))
+            site.pipeline.give_up(escrow.Down("the site doesn't stand"))
+            return False
+
+        with unittest.mock.patch.object(ThreadWaiter, "comes", comes_late):
+            self.late(lambda: site.change("stock", -1, timeout=20.0), escrow.Down)
+            self.late(lambda: site.transaction().lower("stock", 1, timeout=20.0), escrow.Down)
+        gate.open()
+        self.assertEqual(site.share("stock"), Share(20, 30))
 
     def test_a_serve_that_stands_still(self) -> None:
         site = self.site(LARGE, most_waiting=50)
@@ -430,7 +501,7 @@ class BoundTest(TimeTest):
         self.assertEqual(site.share("stock").lower, 499_950)
 
     def test_who_holds_for_long_is_warned_of_once(self) -> None:
-        site = self.site(LARGE, held=0.5)
+        site = self.site(LARGE, held=2.0)
         with self.assertLogs("escrow", logging.WARNING) as told:
             first, second = site.transaction(), site.transaction()
             first.lower("stock", 1)
@@ -439,7 +510,7 @@ class BoundTest(TimeTest):
             time.sleep(0.3)
             second.lower("stock", 1)
             wait_until(lambda: len(told.output) == 2)
-            time.sleep(0.8)
+            time.sleep(2.5)
         self.assertEqual(len(told.output), 2)
         for t, line in zip((first, second), told.output):
             self.assertIn(f"{site.folder}: transaction {t.id} is held for ", line)

@@ -65,7 +65,7 @@ class OverFolderTest(ForgetfulTest):
     def setUp(self) -> None:
         super().setUp()
         self.shop = self.forgetful()
-        self.client = self.opened_site(self.shop, timeout=0.5)
+        self.client = self.opened_site(self.shop, timeout=4.0)  # in which it is asked, also on a busy machine
 
     def left(self, sale: Sale, key: Optional[str]) -> Unknown:
         """What a sale is told that was committed, and whose answer a stop left out. Then the site stands again."""
@@ -87,7 +87,7 @@ class OverFolderTest(ForgetfulTest):
                 assert fault.id is not None
                 self.assertIn(f"transaction {fault.id}: ", str(fault))
                 self.assertIn("ask outcome of this id later", str(fault))
-                self.assertIs(self.client.outcome(fault.id, timeout=20.0), Outcome.COMMITTED)
+                self.assertIs(self.client.outcome(fault.id, timeout=60.0), Outcome.COMMITTED)
                 self.assertEqual((self.sold(self.shop)[-1], len(self.sold(self.shop))), ((fault.id, -1), many))
 
     def test_a_sale_by_a_key(self) -> None:
@@ -97,8 +97,8 @@ class OverFolderTest(ForgetfulTest):
                 self.assertEqual(fault.key, f"order-{many}")
                 self.assertIn(f"key order-{many}: ", str(fault))
                 self.assertIn("with the same key", str(fault))
-                self.assertEqual(self.client.kept_key(f"order-{many}", timeout=20.0), fault.id)
-                self.assertEqual(self.client.change("stock", -1, key=f"order-{many}", timeout=20.0), fault.id)
+                self.assertEqual(self.client.kept_key(f"order-{many}", timeout=60.0), fault.id)
+                self.assertEqual(self.client.change("stock", -1, key=f"order-{many}", timeout=60.0), fault.id)
                 self.assertEqual((self.sold(self.shop)[-1], len(self.sold(self.shop))), ((fault.id, -1), many))
 
 

@@ -22,7 +22,7 @@ from programs import LARGE, PACKAGES, SHOP, SiteTest, commits, wait_until
 from test_site_readme import UVICORN, examples, free_port
 import escrow
 
-LIMIT = 60.0
+LIMIT = 180.0
 """Seconds in which each order is answered, whatever is killed meanwhile."""
 DOOR = "webshop2.door"
 Message = dict[str, Any]
@@ -35,11 +35,11 @@ def app_of_page() -> str:
 
 
 class Worker:
-    """One worker by hand: the app over a door, its start, orders, and its end. It waits for a second at most."""
+    """One worker by hand: the app over a door, its start, orders, and its end. It waits for so many seconds at most."""
 
-    def __init__(self, door: str) -> None:
+    def __init__(self, door: str, seconds: float = LIMIT) -> None:
         self._names: dict[str, Any] = {}
-        exec(app_of_page().replace(DOOR, door).replace("timeout=5.0", "timeout=1.0, wait=1.0"), self._names)
+        exec(app_of_page().replace(DOOR, door).replace("timeout=5.0", f"timeout={seconds}, wait={seconds}"), self._names)
         self._heard: asyncio.Queue[Message] = asyncio.Queue()
         self._told: asyncio.Queue[Message] = asyncio.Queue()
 
@@ -102,7 +102,7 @@ class AppTest(SiteTest):
         self.addCleanup(door.close)
 
         async def sells() -> None:
-            worker = Worker(path)
+            worker = Worker(path, 5.0)
             await worker.start()
             await asyncio.to_thread(door.kill)
             self.assertEqual(await worker.ask("POST", "/A-1/3"), (503, ""))
@@ -122,7 +122,7 @@ class AppTest(SiteTest):
             os.chmod(path, 0o600)
 
         async def starts() -> Message:
-            return await Worker(path).start()
+            return await Worker(path, 1.0).start()
 
         told = asyncio.run(starts())
         self.assertEqual(told["type"], "lifespan.startup.failed")

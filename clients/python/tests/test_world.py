@@ -159,13 +159,13 @@ class WorldTest(unittest.TestCase):
             for it in sellers:
                 it.stop()
             for it in sellers:
-                it.join(60)
+                it.join(300)
                 self.assertFalse(it.is_alive() or it.fault, f"seed {SEED}: {it.fault}")
         self.tell()
         notes = world.notes()
         for field in SCHEMA.fields:
             number = self.dice.randrange(SCHEMA.sites)
-            notes[number] += sell_out(world.shops[number], field.name, self.value_of(field) - field.floor, 60)
+            notes[number] += sell_out(world.shops[number], field.name, self.value_of(field) - field.floor, 300)
         world.close()
         self.look_at_logs(notes)
         self.judge()

@@ -67,10 +67,11 @@ def copy_packages(top: str) -> str:
     return packages
 
 
-def failure(packages: str, *tests: str) -> str:
-    """What they told, where they don't pass, or nothing."""
-    words = [sys.executable, "-m", "unittest", "-q", *tests]
-    ran = subprocess.run(words, cwd=os.path.join(packages, "tests"), capture_output=True, text=True, timeout=150, check=False)
+def failure(packages: str, *tests: str, long: int = 120) -> str:
+    """What they told, where they don't pass, or nothing. `long` is what they wait at most, in seconds, for what is sure to come."""
+    words, env = [sys.executable, "-m", "unittest", "-q", *tests], {**os.environ, "ESCROW_LONG": str(long)}
+    folder = os.path.join(packages, "tests")
+    ran = subprocess.run(words, cwd=folder, env=env, capture_output=True, text=True, timeout=400, check=False)
     return ran.stderr or "failed" if ran.returncode else ""
 
 
@@ -93,7 +94,7 @@ def is_seen(edit: Edit) -> bool:
     with tempfile.TemporaryDirectory() as top:
         packages = copy_packages(top)
         make_mistake(packages, edit)
-        return bool(failure(packages, edit.test))
+        return bool(failure(packages, edit.test, long=15))
 
 
 class WrongBodiesTest(unittest.TestCase):

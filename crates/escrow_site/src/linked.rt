@@ -1,10 +1,10 @@
 //! The paths of a folder whose log may be a link.
 
-use folder_faults::{Fault, failed};
+use folder_faults::{Fault, Missing};
 use std::fs;
 use std::io::{self, ErrorKind};
 use std::path::Path;
-use world_folders::Paths;
+use world_folders::{Paths, read_fault};
 
 // The path of the file to which a link leads, or None where it is none, or leads nowhere.
 fn target_of(rt: &HostRuntime, path: &str) -> io::Result<Option<String>> {
@@ -23,7 +23,9 @@ pub(crate) fn paths_of(rt: &HostRuntime, folder: &str) -> Result<Paths, Fault> {
         Ok(Some(target)) => paths.log = target,
         Ok(None) => {}
         Err(error) if error.kind() == ErrorKind::NotFound => {}
-        Err(error) => return Err(failed(rt.alloc(), paths.log.as_str(), error)),
+        Err(error) => {
+            return Err(read_fault(rt.alloc(), paths.log.as_str(), error, Missing::Log));
+        }
     }
     Ok(paths)
 }

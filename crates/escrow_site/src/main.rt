@@ -24,6 +24,7 @@ use clap::error::ErrorKind;
 use folder_faults::Fault;
 use site_tasks::{Task, read_task};
 use std::process::ExitCode;
+use streams::Stream;
 
 // Carries a task out, and tells the status that it ends with.
 fn carry_out(rt: &HostRuntime, task: &Task) -> Result<u8, Fault> {
@@ -75,9 +76,24 @@ fn tell_refused(rt: &(impl Print + Eprint), error: &Error) -> u8 {
     if error.use_stderr() { 2 } else { 0 }
 }
 
-// Carries a task out, once no file that it opens can take the number of a standard stream.
+/// Tells a fault where that isn't among the records of a site: on standard error, or else on standard
+/// output, or nowhere.
+fn tell_apart(rt: &HostRuntime, task: &Task, fault: &Fault) -> u8 {
+    if !streams::is_refused(rt, task, Stream::Error) {
+        return tell(rt, fault);
+    }
+    if !streams::is_refused(rt, task, Stream::Output) {
+        let _ = println!(rt; "escrow_site: {fault}");
+    }
+    fault.status()
+}
+
+// Carries a task out, once no file that it opens can take the number of a standard stream, and no stream
+// goes to a file of a site.
 fn in_order(rt: &HostRuntime, task: &Task) -> Result<u8, Fault> {
     streams::take_closed(rt)?;
+    streams::refuse_stream(rt, task, Stream::Output)?;
+    streams::refuse_stream(rt, task, Stream::Error)?;
     carry_out(rt, task)
 }
 
@@ -88,6 +104,6 @@ fn main(rt: HostRuntime) -> ExitCode {
     };
     match in_order(&rt, &task) {
         Ok(status) => ExitCode::from(status),
-        Err(fault) => ExitCode::from(tell(&rt, &fault)),
+        Err(fault) => ExitCode::from(tell_apart(&rt, &task, &fault)),
     }
 }

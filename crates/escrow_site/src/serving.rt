@@ -23,7 +23,7 @@ use site_folder::{Identity, log_name};
 use site_service::NoTrace;
 use site_tasks::Serving;
 use std::alloc::Global;
-use world_folders::{Paths, TellsFault, read_site};
+use world_folders::{Paths, TellsFault, check_mark, read_site};
 
 // Opens the site over a log that is kept whole, and serves it over standard input and output.
 fn serve_whole<F: LogFile + Drop, T: LogFile>(
@@ -221,7 +221,8 @@ fn serve_unsynced(
     serve_files(rt, paths, identity, swap, trace, how)
 }
 
-// The trace of a locked log, which is refused where it is older than was seen before.
+// The trace of a locked log, which is refused where it is older than was seen before, or than the mark
+// that its folder keeps of an older one.
 fn trace_beside(
     rt: &HostRuntime,
     paths: &Paths,
@@ -231,6 +232,7 @@ fn trace_beside(
     if let Some(seen) = how.not_before {
         check_age(rt, rt.alloc(), paths, identity, seen)?;
     }
+    check_mark(rt, rt.alloc(), paths, identity)?;
     trace_for(rt, paths, identity, how.is_traced)
 }
 

@@ -10,11 +10,23 @@ use sealed_log::end_all;
 use site_tasks::Settling;
 use std::alloc::{AllocError, Global};
 use std::io;
-use world_folders::{WorldFolders, lost_sites, ranges_of, read_world, settled_header};
+use world_folders::{WorldFolders, check_mark, lost_sites, ranges_of, read_world, settled_header};
 use world_logs::FieldRange;
+
+// Refuses a log, but of those that are lost, that is older than the mark that its folder keeps: the new
+// world would have once more what it sold since.
+fn refuse_older(rt: &HostRuntime, world: &WorldFolders, lost: &[SiteNo]) -> Result<(), Fault> {
+    for folder in world.folders.as_slice() {
+        if !lost.contains(&folder.identity.number()) {
+            check_mark(rt, rt.alloc(), &folder.paths, &folder.identity)?;
+        }
+    }
+    Ok(())
+}
 
 // Settles the world by the logs of all sites.
 fn settle_logs(rt: &HostRuntime, world: &WorldFolders) -> Result<(), Fault> {
+    refuse_older(rt, world, &[])?;
     let header = settled_header(rt, rt.alloc(), world)?;
     match println!(rt; "{header}") {
         Ok(()) => Ok(()),
@@ -49,6 +61,7 @@ fn numbers_of(alloc: Global, sites: &[SiteNo]) -> Result<String, AllocError> {
 
 // Shows between which values each field lies by the logs that are there, and tells which are lost.
 fn bound_logs(rt: &HostRuntime, world: &WorldFolders, lost: &[SiteNo]) -> Result<(), Fault> {
+    refuse_older(rt, world, lost)?;
     let ranges = ranges_of(rt, rt.alloc(), world, lost)?;
     match show_ranges(rt, &world.schema, ranges.as_slice()) {
         Ok(()) => Err(Fault::LogsLost(numbers_of(rt.alloc(), lost)?)),

@@ -22,6 +22,8 @@ pub enum Why {
     FolderThere,
     #[error("isn't there: look whether its disk is: a site's folder is made by create, once")]
     NoSite,
+    #[error("isn't in a folder: name the one that create made, not a file in it")]
+    NoFolder,
     #[error("isn't of escrow site 1 or 2: serve it by the version that made it, or put it back from a copy")]
     OtherVersion,
     #[error("isn't as create wrote it: put it back from a copy")]
@@ -46,6 +48,20 @@ pub enum Why {
     DamagedBatch(u64),
     #[error("epoch {0}, length {1}: older than --not-before: put the newest log back")]
     Old(u64, u64),
+    /// How far the log has come, and the mark.
+    #[error("epoch {epoch}, length {length}: older than its mark in not_before, epoch {mark_epoch}, length {mark_length}: put the newest log back")]
+    Marked {
+        epoch: u64,
+        length: u64,
+        mark_epoch: u64,
+        mark_length: u64,
+    },
+    #[error("isn't two numbers, the epoch and the length of the mark that refused an older log here: write those that escrow_site show tells of the newest log")]
+    NoMark,
+    #[error("is where standard output goes: send that elsewhere")]
+    Output,
+    #[error("is where standard error goes: send that elsewhere")]
+    ErrorOutput,
     #[error("isn't there: only a site that was always served with --trace has one")]
     NoTrace,
     #[error("is there: serve with --trace, so that it misses nothing")]

@@ -21,6 +21,7 @@ pub record ArePathsOf (folder : List ℕ) (paths : Paths) : Type 0 where
   pub trace : string_bytes paths.trace ≡ path_in folder (codes "trace")
   pub new_trace : string_bytes paths.new_trace ≡ path_in folder (codes "trace.new")
   pub settled : string_bytes paths.settled ≡ path_in folder (codes "settled")
+  pub not_before : string_bytes paths.not_before ≡ path_in folder (codes "not_before")
 
 -- The folder is that of a site: its file `site` was read, and is the text of who the folder belongs to.
 pub record IsSiteFolder (holds : List ℕ → List ℕ → Type 0) (folder : List ℕ) (f : SiteFolder) : Type 0 where

@@ -2,4 +2,5 @@ pub mod Reading
 pub mod Folders
 pub mod Logs
 pub mod Lost
+pub mod Marks
 pub mod Traces

@@ -9,7 +9,7 @@ use crate::reading::ReadsFiles;
 use folder_faults::{Fault, Missing, Why, failed, header_words, refused};
 use site_folder::{Identity, IdentityFault, read_identity};
 use std::alloc::{AllocError, Global};
-use std::io::ErrorKind;
+use std::io::{self, ErrorKind};
 
 /// The paths of a folder and of its files.
 #[derive(Drop)]
@@ -24,6 +24,8 @@ pub struct Paths {
     pub new_trace: String,
     /// A file that is there once the world of the site was settled.
     pub settled: String,
+    /// A file that is there once a log was refused as an older one: it holds the mark that refused it.
+    pub not_before: String,
 }
 
 // The path of a file in a folder.
@@ -49,12 +51,22 @@ impl Paths {
             trace: path_in(alloc, folder, "trace")?,
             new_trace: path_in(alloc, folder, "trace.new")?,
             settled: path_in(alloc, folder, "settled")?,
+            not_before: path_in(alloc, folder, "not_before")?,
         })
     }
 }
 
-/// The bytes of a file of the folder, or why it is refused where it isn't there. The fault is else that
-/// the system can't read it, or want of memory.
+/// Why a file of a folder isn't read: it isn't there, what is named is no folder, or the system can't.
+pub fn read_fault(alloc: Global, path: &str, error: io::Error, missing: Missing) -> Fault {
+    match error.kind() {
+        ErrorKind::NotFound => refused(alloc, path, Why::from(missing)),
+        ErrorKind::NotADirectory => refused(alloc, path, Why::NoFolder),
+        _ => failed(alloc, path, error),
+    }
+}
+
+/// The bytes of a file of the folder, or why it is refused where it isn't there, or what is named is no
+/// folder. The fault is else that the system can't read it, or want of memory.
 pub fn read_file<R: ReadsFiles>(
     files: &R,
     alloc: Global,
@@ -65,12 +77,7 @@ pub fn read_file<R: ReadsFiles>(
 {
     match files.read(path) {
         Ok(bytes) => Ok(bytes),
-        Err(error) if error.kind() == ErrorKind::NotFound => Err(refused(
-            alloc,
-            path,
-            Why::from(missing),
-        )),
-        Err(error) => Err(failed(alloc, path, error)),
+        Err(error) => Err(read_fault(alloc, path, error, missing)),
     }
 }
 

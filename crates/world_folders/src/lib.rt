@@ -5,6 +5,7 @@
 mod checking;
 mod folder;
 mod folder_log;
+mod marks;
 mod progress;
 mod reading;
 mod settling;
@@ -15,8 +16,9 @@ mod weaving;
 mod worlds;
 
 pub use checking::checked_states;
-pub use folder::{Paths, read_file, read_site};
+pub use folder::{Paths, read_fault, read_file, read_site};
 pub use folder_log::{count_records, damaged_line, held_in, read_stand};
+pub use marks::check_mark;
 pub use progress::tell_reading;
 pub use reading::ReadsFiles;
 pub use settling::{lost_sites, ranges_of, settled_header};

@@ -2,9 +2,10 @@
 use crate::Fault;
 use std::collections::VecDeque;
 use std::convert::Infallible;
-use std::io::{BufRead, ErrorKind, Write};
+use std::io::{BufRead, Error, ErrorKind, Write};
 use std::net::Shutdown;
 use std::os::unix::net::UnixStream;
+use std::process::{Child, ExitStatus};
 use std::sync::atomic::{AtomicBool, Ordering};
 use std::sync::mpsc::{channel, Receiver, RecvTimeoutError, Sender};
 use std::sync::{Arc, Condvar, Mutex, MutexGuard};
@@ -45,10 +46,25 @@ pub(crate) struct Heard {
     is_late: bool,
 }
 
-/// Who holds it writes lines, and notes each, in the same order.
+/// Whose turn it is to write. Nobody writes who holds it.
+#[derive(Default)]
 struct Out {
-    to: Option<Box<dyn Write + Send>>,
+    is_taken: bool,
+    /// How many wait for their turn.
+    waiting: usize,
     /// Transactions of this process, or calls of this connection.
+    begun: u64,
+    /// Lines that nobody waits for, for who has the turn to write.
+    owed: VecDeque<String>,
+    /// Nothing more is written, as it is to end by itself.
+    is_closed: bool,
+    /// Nor is it here, where it is to end by force: the last line may stand there in part.
+    is_stopped: bool,
+}
+
+/// Who has it writes lines, and notes each, in the same order; then it writes what others owe.
+struct Turn<'a> {
+    lines: &'a Lines,
     begun: u64,
 }
 
@@ -68,11 +84,14 @@ struct Queues {
 
 /// The lines of a process, or of a connection.
 pub(crate) struct Lines {
+    process: u32, // that made it, and has the reader
     epoch: u32,
     out: Mutex<Out>,
+    turned: Condvar,
     queues: Mutex<Queues>,
     changed: Condvar,
-    door: Option<UnixStream>,
+    peer: UnixStream,
+    child: Option<Mutex<Child>>, // none over a door
     is_direct: AtomicBool,
 }
 
@@ -80,14 +99,15 @@ pub(crate) fn lock<T>(of: &Mutex<T>) -> MutexGuard<'_, T> {
     of.lock().expect("no holder panics")
 }
 
-fn left(end: End) -> Duration {
+pub(crate) fn left(end: End) -> Duration {
     end.map_or(Duration::MAX, |end| end.saturating_duration_since(Instant::now()))
 }
 
 /// What a line was answered; of a bad one what is wrong. None where it isn't its answer.
 fn reply_to<'a>(asked: &str, line: &'a str) -> Option<&'a str> {
     if let Some(why) = line.strip_prefix("bad line") {
-        return (!asked.ends_with(" begin")).then(|| why.trim_start_matches([':', ' ']));
+        let is_front = |it: char| it.is_ascii_digit() || it == ' ' || it == ':'; // where there is one, the number of the line
+        return (!asked.ends_with(" begin")).then(|| why.trim_start_matches(is_front));
     }
     let (front, told) = asked.split_once(" key ").unwrap_or((asked, ""));
     let kept = format!("kept key {}", told.split(' ').next().unwrap_or_default()); // behind the key may stand its position
@@ -95,15 +115,102 @@ fn reply_to<'a>(asked: &str, line: &'a str) -> Option<&'a str> {
     fronts.iter().find_map(|it| line.strip_prefix(it)?.strip_prefix(" -> "))
 }
 
+/// Waits for the end of a process; behind this end it is killed first.
+pub(crate) fn wait_for(child: &mut Child, end: End) -> Result<ExitStatus, Error> {
+    while end.is_some() {
+        if let Some(status) = child.try_wait()? {
+            return Ok(status);
+        } else if left(end).is_zero() {
+            child.kill()?;
+            break;
+        }
+        thread::sleep(left(end).min(Duration::from_millis(1)));
+    }
+    child.wait()
+}
+
+impl Turn<'_> {
+    /// Writes lines whole, or stops the other end: behind a part of a line nothing may follow.
+    fn write(&self, text: &str) {
+        if (&self.lines.peer).write_all(text.as_bytes()).is_err() {
+            self.lines.stop();
+        }
+    }
+
+    /// Writes to the process: the id, and how many lines; None where it has ended.
+    fn ask<E>(
+        &mut self,
+        begins: u64,
+        make: impl FnOnce(u64, &str) -> Result<Vec<String>, E>,
+        teller: &Sender<Told>,
+    ) -> Result<Option<(String, usize)>, E> {
+        let begun = self.begun + begins;
+        let id = format!("{}.{begun}", self.lines.epoch);
+        let lines = make(begun, &id)?;
+        if !self.lines.note(|queues| queues.pending.extend(lines.iter().map(|it| (it.clone(), teller.clone())))) {
+            return Ok(None);
+        }
+        self.begun = begun;
+        self.write(&(lines.join("\n") + "\n"));
+        Ok(Some((id, lines.len())))
+    }
+
+    /// Writes a line to the door: the number of the call; None where the connection has ended.
+    fn send(&mut self, line: &str, mut call: Call) -> Option<u64> {
+        call.number = self.begun + 1;
+        if !self.lines.note(|queues| queues.untaken.push_back(call)) {
+            return None;
+        }
+        self.begun += 1;
+        self.write(&format!("{line}\n")); // where it fails: what the door has taken it has told
+        Some(self.begun)
+    }
+
+    /// Writes a line whose answer nobody waits for.
+    fn tell(&mut self, line: String) {
+        let (teller, _) = channel();
+        if self.lines.is_door() {
+            self.send(&line.clone(), Call { number: 0, lines: vec![line], teller });
+        } else {
+            let _ = self.ask(0, |_, _| Ok::<_, Infallible>(vec![line]), &teller);
+        }
+    }
+}
+
+impl Drop for Turn<'_> {
+    fn drop(&mut self) {
+        let mut out = lock(&self.lines.out);
+        while let Some(line) = out.owed.pop_front() {
+            drop(out);
+            self.tell(line);
+            out = lock(&self.lines.out);
+        }
+        (out.begun, out.is_taken) = (self.begun, false);
+        if out.waiting > 0 {
+            self.lines.turned.notify_one();
+        }
+    }
+}
+
 impl Lines {
-    pub fn new(epoch: u32, to: Box<dyn Write + Send>, door: Option<UnixStream>, is_direct: bool) -> Arc<Lines> {
-        let out = Mutex::new(Out { to: Some(to), begun: 0 });
-        let (queues, changed, is_direct) = (Mutex::default(), Condvar::new(), AtomicBool::new(is_direct));
-        Arc::new(Lines { epoch, out, queues, changed, door, is_direct })
+    pub fn new(epoch: u32, peer: UnixStream, child: Option<Child>, is_direct: bool) -> Arc<Lines> {
+        let (out, queues, child) = (Mutex::default(), Mutex::default(), child.map(Mutex::new));
+        let (turned, changed, is_direct) = (Condvar::new(), Condvar::new(), AtomicBool::new(is_direct));
+        Arc::new(Lines { process: std::process::id(), epoch, out, turned, queues, changed, peer, child, is_direct })
+    }
+
+    /// A fork of the process that made it asks nothing, and takes no lock, which nobody may ever open there.
+    pub fn of_this_process(&self) -> Result<(), Fault> {
+        let process = self.process;
+        if process == std::process::id() {
+            Ok(())
+        } else {
+            Err(Fault::Forked(process))
+        }
     }
 
     pub fn is_door(&self) -> bool {
-        self.door.is_some()
+        self.child.is_none()
     }
 
     /// Whether what wasn't taken is known not to be: not where a program is between this one and the door.
@@ -112,7 +219,39 @@ impl Lines {
     }
 
     pub fn is_up(&self) -> bool {
-        !lock(&self.queues).is_ended
+        !lock(&self.out).is_stopped && !lock(&self.queues).is_ended
+    }
+
+    /// How many transactions this process was asked to begin; None over a door, or where it has ended.
+    pub fn begun(&self) -> Option<u64> {
+        (!self.is_door() && self.is_up()).then(|| lock(&self.out).begun)
+    }
+
+    /// Waits for its turn to write; None where it doesn't come by the end, or nothing is written any more.
+    fn turn(&self, end: End) -> Option<Turn<'_>> {
+        let mut out = lock(&self.out);
+        while out.is_taken && !out.is_stopped {
+            if left(end).is_zero() {
+                return None;
+            }
+            out.waiting += 1;
+            out = self.turned.wait_timeout(out, left(end)).expect("no holder panics").0;
+            out.waiting -= 1;
+        }
+        if out.is_stopped || out.is_closed {
+            return None;
+        }
+        out.is_taken = true;
+        Some(Turn { lines: self, begun: out.begun })
+    }
+
+    /// Notes lines that are about to be written; false where it has ended.
+    fn note(&self, by: impl FnOnce(&mut Queues)) -> bool {
+        let mut queues = lock(&self.queues);
+        if !queues.is_ended {
+            by(&mut queues);
+        }
+        !queues.is_ended
     }
 
     /// Asks these lines, which stand together. A door is told the one line `door` in their place.
@@ -134,70 +273,29 @@ impl Lines {
         end: End,
     ) -> Result<Heard, E> {
         let (teller, replies) = channel();
-        let Some((id, many)) = self.write_program(begins, make, teller)? else { return Ok(Heard::default()) };
+        let Some(mut turn) = self.turn(end).filter(|_| self.is_up()) else { return Ok(Heard::default()) };
+        let asked = turn.ask(begins, make, &teller)?;
+        drop((turn, teller));
+        let Some((id, many)) = asked else { return Ok(Heard::default()) };
         Ok(self.hear(0, Heard { id, is_taken: true, ..Heard::default() }, replies, many, "", end))
-    }
-
-    fn write_program<E>(
-        &self,
-        begins: u64,
-        make: impl FnOnce(u64, &str) -> Result<Vec<String>, E>,
-        teller: Sender<Told>,
-    ) -> Result<Option<(String, usize)>, E> {
-        let mut out = lock(&self.out);
-        if !self.is_up() {
-            return Ok(None);
-        }
-        let (begun, Some(to)) = (out.begun + begins, &mut out.to) else { return Ok(None) };
-        let id = format!("{}.{begun}", self.epoch);
-        let lines = make(begun, &id)?;
-        {
-            let mut queues = lock(&self.queues);
-            if queues.is_ended {
-                return Ok(None);
-            }
-            queues.pending.extend(lines.iter().map(|it| (it.clone(), teller.clone())));
-        }
-        let _ = to.write_all((lines.join("\n") + "\n").as_bytes()); // where it fails the output ends too
-        out.begun = begun;
-        Ok(Some((id, lines.len())))
     }
 
     fn ask_door(&self, line: &str, lines: Vec<String>, end: End) -> Heard {
         let ((teller, replies), many) = (channel(), lines.len());
-        match self.send(line, Call { number: 0, lines, teller }) {
+        match self.send(line, Call { number: 0, lines, teller }, end) {
             Some(number) => self.hear(number, Heard::default(), replies, many, &line.replacen(" open ", " enter ", 1), end),
             None => Heard::default(),
         }
     }
 
-    /// Writes a line to the door: the number of the call; None where the connection has ended.
-    fn send(&self, line: &str, mut call: Call) -> Option<u64> {
-        let mut out = lock(&self.out);
-        let (number, to) = (out.begun + 1, out.to.as_mut()?);
-        call.number = number;
-        {
-            let mut queues = lock(&self.queues);
-            if queues.is_ended {
-                return None;
-            }
-            queues.untaken.push_back(call);
-        }
-        if to.write_all(format!("{line}\n").as_bytes()).is_err() {
-            self.cut(); // what the door has taken it has told
-        }
-        out.begun = number;
-        Some(number)
+    fn send(&self, line: &str, call: Call, end: End) -> Option<u64> {
+        self.turn(end)?.send(line, call)
     }
 
-    /// Has a line asked whose answer nobody waits for.
+    /// Has a line asked whose answer nobody waits for: by who has the turn, or else at once.
     pub fn tell(&self, line: String) {
-        let (teller, _) = channel();
-        if self.is_door() {
-            self.send(&line.clone(), Call { number: 0, lines: vec![line], teller });
-        } else {
-            let _ = self.write_program(0, |_, _| Ok::<_, Infallible>(vec![line]), teller);
-        }
+        lock(&self.out).owed.push_back(line);
+        drop(self.turn(Some(Instant::now())));
     }
 
     /// What came by the end. What the door hasn't taken by then is called back, by the end of the connection.
@@ -210,9 +308,12 @@ impl Lines {
                     self.tell("leave".to_string());
                     return heard;
                 }
-                Ok(Told::Place(call)) => match self.send(enter, call) {
+                Ok(Told::Place(call)) => match self.send(enter, call, end) {
                     Some(anew) => number = anew,
-                    None => return heard,
+                    None => {
+                        self.tell("leave".to_string());
+                        return heard;
+                    }
                 },
                 Err(RecvTimeoutError::Timeout) if !heard.is_late => {
                     heard.is_late = true;
@@ -221,7 +322,7 @@ impl Lines {
                     let is_untaken = queues.untaken.iter().any(|it| it.number == number);
                     drop(queues);
                     if is_untaken {
-                        self.cut();
+                        self.stop();
                         end = None; // what has come until then is read, and then it ends
                     }
                 }
@@ -259,7 +360,7 @@ impl Lines {
             match input.read_line(&mut line) {
                 Err(fault) if fault.kind() == ErrorKind::InvalidData => break Err(Fault::Line("no UTF-8".to_string())),
                 Ok(_) if line.ends_with('\n') => {}
-                _ if self.is_door() && lock(&self.out).to.is_some() => break Err(Fault::Door("the door is gone".to_string())),
+                _ if self.is_door() && !lock(&self.out).is_closed => break Err(Fault::Door("the door is gone".to_string())),
                 _ => break Ok(()),
             }
             if let Err(fault) = self.take(line.trim_end_matches('\n')) {
@@ -269,7 +370,9 @@ impl Lines {
         if self.is_door() && matches!(read, Err(Fault::Line(_))) {
             self.is_direct.store(false, Ordering::SeqCst); // what the door took may be unread
         }
-        self.cut();
+        if self.is_door() || read.is_err() {
+            self.stop(); // nobody reads what it writes any more
+        }
         *lock(&self.queues) = Queues { is_ended: true, ..Queues::default() };
         self.changed.notify_all();
         read
@@ -319,24 +422,32 @@ impl Lines {
         Some(Ok(()))
     }
 
-    /// Ends the connection: what the door hasn't taken by now it never takes.
-    pub fn cut(&self) {
-        if let Some(peer) = &self.door {
-            let _ = peer.shutdown(Shutdown::Both);
-        }
+    /// Ends the process by force, or the connection: what the door hasn't taken by now it never takes.
+    pub fn stop(&self) {
+        lock(&self.out).is_stopped = true;
+        self.turned.notify_all();
+        self.child.iter().for_each(|it| drop(lock(it).kill()));
+        let _ = self.peer.shutdown(Shutdown::Both); // so the reader ends, whoever holds the other end
     }
 
     /// Has no more lines written: the other end answers what there is, and ends.
-    pub fn close(&self) {
-        drop(lock(&self.out).to.take());
-        if let Some(peer) = &self.door {
-            let _ = peer.shutdown(Shutdown::Write);
+    pub fn close(&self, end: End) {
+        let turn = self.turn(end);
+        lock(&self.out).is_closed = true;
+        match turn {
+            Some(_) => drop(self.peer.shutdown(Shutdown::Write)),
+            None => self.stop(),
         }
     }
 
-    /// Over a door no write takes longer than this: else the connection ends.
-    pub fn limit_writes(&self, limit: Duration) {
-        self.door.iter().for_each(|it| drop(it.set_write_timeout(Some(limit))));
+    /// No write takes longer than this: else the other end is stopped.
+    pub fn limit_writes(&self, limit: Option<Duration>) {
+        let _ = self.peer.set_write_timeout(limit);
+    }
+
+    /// Waits for the end of the process, which is by force behind this end; a connection has ended well.
+    pub fn wait(&self, end: End) -> Result<ExitStatus, Error> {
+        self.child.as_ref().map_or(Ok(ExitStatus::default()), |it| wait_for(&mut lock(it), end))
     }
 
     /// Waits until all is read: whether it is by the end.

@@ -20,6 +20,6 @@ fn the_id_is_told_ahead() {
     assert!(site.kept("1.5").unwrap_err().to_string().contains("no transaction of this id was begun yet"));
     let site = (site.end().unwrap(), Site::start(&program, &folder).unwrap()).1;
     assert_eq!((site.kept(&books[0]).unwrap(), site.kept(&books[1]).unwrap()), (Some(true), Some(false)));
-    assert_eq!((site.share("stock"), site.kept("1.5").unwrap()), (Some("share 19 31".to_string()), Some(false)));
+    assert_eq!((site.share("stock").unwrap(), site.kept("1.5").unwrap()), ((19, 31), Some(false)));
     assert_eq!(site.change("stock\n0 restart", -1), Change::Refused("\"stock\\n0 restart\" is no field".to_string()));
 }

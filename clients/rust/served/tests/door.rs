@@ -6,6 +6,7 @@ use std::env::var;
 use std::io::{Read, Write};
 use std::net::Shutdown;
 use std::os::unix::net::{UnixListener, UnixStream};
+use std::os::unix::process::ExitStatusExt;
 use std::process::{Child, Command, Stdio};
 use std::sync::atomic::{AtomicBool, AtomicUsize, Ordering};
 use std::sync::{Arc, Barrier};
@@ -85,10 +86,21 @@ impl Drop for Door {
 
 fn signal(name: &str, process: u32) {
     let _ = Command::new("kill").args([format!("-{name}"), process.to_string()]).stderr(Stdio::null()).status();
+    if name == "STOP" {
+        until(|| is_still(process));
+    }
 }
 
+/// Whether a process stands still.
+fn is_still(process: u32) -> bool {
+    std::fs::read_to_string(format!("/proc/{process}/stat")).is_ok_and(|it| it.rsplit_once(')').is_some_and(|it| it.1.starts_with(" T ")))
+}
+
+/// So long that, also on a busy machine, who is there has taken a line, or answered it.
+const IN_TIME: Duration = Duration::from_secs(4);
+
 fn until(mut holds: impl FnMut() -> bool) {
-    let end = Instant::now() + Duration::from_secs(60);
+    let end = Instant::now() + Duration::from_secs(180);
     while !holds() {
         assert!(Instant::now() < end, "it didn't come in time");
         thread::sleep(Duration::from_millis(5));
@@ -117,7 +129,8 @@ fn try_calls(site: &Site) {
     assert!(refused(&site.change("stick", -1)).ends_with("no such field"));
     assert_eq!(refused(&site.change("stock\n0 begin", -1)), "\"stock\\n0 begin\" is no field");
     for field in ["stick", "stock\n0 begin", "", &"x".repeat(300)] {
-        assert!(site.share(field).unwrap().ends_with("no such field"), "{field}"); // and no line is longer than a door takes
+        let told = site.share(field); // and no line is longer than a door takes
+        assert!(matches!(&told, Err(Fault::Refused(why)) if why.ends_with("no such field")), "{field}: {told:?}");
         assert!(matches!(site.change(field, -1), Change::Refused(_)), "{field}");
     }
     let mut books = Vec::new();
@@ -125,7 +138,7 @@ fn try_calls(site: &Site) {
     assert_eq!(told, Ok(Change::Committed(books[0].clone())));
     assert_eq!(site.change_before("stock", -1, |_| Err("the books are full")), Err("the books are full"));
     assert!(thread::scope(|scope| scope.spawn(|| site.change_before::<()>("stock", -1, |_| panic!("gone"))).join()).is_err());
-    assert_eq!((site.share("stock").as_deref(), site.read("stock").as_deref()), (Some("share 16 34"), Some("between 16 66")));
+    assert_eq!((site.share("stock").unwrap(), site.read("stock").unwrap()), ((16, 34), (16, 66)));
     // By a key.
     let order = committed(site.change_by_key("stock", -2, "order-1", None).unwrap());
     assert_eq!(site.change_by_key("stock", -2, "order-1", None).unwrap(), Change::Committed(order.clone()));
@@ -145,12 +158,12 @@ fn try_calls(site: &Site) {
     let again = site.begin("stock", -10).unwrap_or_else(|told| panic!("{told:?}"));
     let id = again.id().to_string();
     assert_eq!(again.commit_by_key("order-1", None).unwrap(), Change::Committed(order.clone()));
-    assert_eq!((site.kept(&id).unwrap(), site.share("stock").as_deref()), (Some(false), Some("share 10 40")));
+    assert_eq!((site.kept(&id).unwrap(), site.share("stock").unwrap()), (Some(false), (10, 40)));
     drop(site.begin("stock", -10));
     site.begin("stock", -10).unwrap_or_else(|told| panic!("{told:?}")).abort();
-    assert_eq!((site.share("stock").as_deref(), site.share("seats").as_deref()), (Some("share 10 40"), Some("share 0 50")));
+    assert_eq!((site.share("stock").unwrap(), site.share("seats").unwrap()), ((10, 40), (0, 50)));
     assert!(matches!(site.begin("stock", -1).map(|it| it.commit_by_key("a b", None)), Ok(Err(Fault::Key(_)))));
-    assert_eq!(site.share("stock").as_deref(), Some("share 10 40"));
+    assert_eq!(site.share("stock").unwrap(), (10, 40));
     let front = first.strip_suffix("1.1").unwrap();
     for (id, why) in [("1.99", "begun yet"), ("9.1", "older log"), ("1", "is no id"), ("1.1\n0 begin", "is no id")] {
         assert!(site.kept(&format!("{front}{id}")).unwrap_err().to_string().contains(why), "{id}");
@@ -168,7 +181,7 @@ fn a_process_and_a_door_tell_the_same() {
     let site = door.site();
     try_calls(&site);
     assert!(site.is_up() && site.end().unwrap().success());
-    assert_eq!(door.site().share("stock").as_deref(), Some("share 10 40")); // nothing is left open
+    assert_eq!(door.site().share("stock").unwrap(), (10, 40)); // nothing is left open
 }
 
 /// So many open transactions, each of one more.
@@ -206,7 +219,7 @@ fn try_places(site: &Site, places: usize) {
             });
         }
     });
-    assert_eq!(site.share("seats").as_deref(), Some("share 0 50")); // each key once
+    assert_eq!(site.share("seats").unwrap(), (0, 50)); // each key once
 }
 
 #[test]
@@ -222,12 +235,12 @@ fn a_wait_for_a_place_ends_and_loses_none() {
     let (own, door) = (Site::start(&var("ESCROW_SITE").unwrap(), &folder).unwrap(), Door::new("waits-door", &[]));
     let others = door.site();
     for (site, many) in [(own, 63), (door.site(), 32)] {
-        let site = site.with_timeout(Duration::from_millis(1_500));
+        let site = site.with_timeout(IN_TIME);
         let all = held(&site, many);
         for _ in 0..2 {
             let began = Instant::now();
             assert_eq!(site.begin("stock", 1).err(), Some(Change::Busy));
-            assert!(began.elapsed() < Duration::from_secs(9) && site.is_up());
+            assert!(began.elapsed() < Duration::from_secs(60) && site.is_up());
         }
         drop(all);
         drop(held(&site, many));
@@ -249,36 +262,36 @@ fn a_wait_for_a_place_ends_and_loses_none() {
     });
     drop(held(&others, 32));
     if site.is_up() {
-        drop(held(&site.with_timeout(Duration::from_secs(5)), 32)); // while the others hold none
+        drop(held(&site.with_timeout(Duration::from_secs(60)), 32)); // while the others hold none
     }
 }
 
 #[test]
 fn what_a_door_has_not_taken_is_busy_and_never_made() {
     let door = Door::new("still", &[]);
-    let site = door.site().with_timeout(Duration::from_millis(1_500));
+    let site = door.site().with_timeout(IN_TIME);
     let mut held = site.begin("stock", -2).ok().unwrap();
     let id = held.id().to_string();
     door.signal("STOP");
     let began = Instant::now();
     assert_eq!(site.change("stock", -1), Change::Busy);
     assert_eq!(site.change_by_key("stock", -1, "a", None).unwrap(), Change::Busy);
-    assert_eq!((site.read("stock"), site.kept(&id).unwrap()), (None, None));
-    assert!(matches!(site.kept_key("a", None), Err(Fault::Stopped)));
+    assert_eq!((site.read("stock").ok(), site.kept(&id).unwrap()), (None, None)); // it is open here
+    assert!(matches!((site.kept("1.0"), site.kept_key("a", None)), (Err(Fault::Stopped), Err(Fault::Stopped))));
     assert_eq!(held.change("seats", -1), Err(Change::Lost(id.clone())));
     assert_eq!(held.commit(), Change::Lost(id.clone()));
-    assert!(began.elapsed() < Duration::from_secs(9) && !site.is_up());
+    assert!(began.elapsed() < Duration::from_secs(60) && !site.is_up());
     drop(site);
     door.signal("CONT");
     let site = door.site();
-    assert_eq!((site.share("stock").as_deref(), site.kept(&id).unwrap()), (Some("share 20 30"), Some(false)));
+    assert_eq!((site.share("stock").unwrap(), site.kept(&id).unwrap()), ((20, 30), Some(false)));
     assert!(committed(site.change("stock", -1)).ends_with("-0-1.2"));
 }
 
 #[test]
 fn what_it_has_taken_is_in_doubt_with_its_id() {
     let mut door = Door::new("doubt", &[]);
-    let site = door.site().with_timeout(Duration::from_millis(1_500));
+    let site = door.site().with_timeout(IN_TIME);
     let held = site.begin("stock", -2).ok().unwrap();
     let served = door.served();
     signal("STOP", served);
@@ -288,11 +301,11 @@ fn what_it_has_taken_is_in_doubt_with_its_id() {
     let Ok(Change::InDoubt(order)) = held.commit_by_key("order", None) else { panic!("it was answered") };
     let Ok(Change::Lost(third)) = site.change_by_key("stock", -1, "third", None) else { panic!("it was answered") };
     signal("CONT", served);
-    until(|| site.share("stock").is_some());
+    until(|| site.share("stock").is_ok());
     assert_eq!((site.kept(id).unwrap(), site.kept_key("order", None).unwrap()), (Some(true), Some(order.clone())));
     assert_eq!((site.kept(&third).unwrap(), site.kept_key("third", None).unwrap()), (Some(false), None));
     assert_eq!(site.change_by_key("stock", -2, "order", None).unwrap(), Change::Committed(order));
-    assert_eq!(site.share("stock").as_deref(), Some("share 17 33"));
+    assert_eq!(site.share("stock").unwrap(), (17, 33));
     // A door that dies once it has taken it.
     signal("STOP", served);
     let all = Arc::new(Barrier::new(2));
@@ -302,7 +315,7 @@ fn what_it_has_taken_is_in_doubt_with_its_id() {
         move || (all.wait(), site.change("stock", -1), site)
     });
     all.wait();
-    thread::sleep(Duration::from_secs(1)); // by then it is taken
+    thread::sleep(IN_TIME); // by then it is taken
     door.kill();
     signal("CONT", served);
     let (_, told, site) = asks.join().unwrap();
@@ -311,15 +324,15 @@ fn what_it_has_taken_is_in_doubt_with_its_id() {
     assert!(matches!(site.kept_key("order", None), Err(Fault::Stopped)));
     door.start();
     let site = door.site();
-    let share = if site.kept(id).unwrap().unwrap() { "share 16 34" } else { "share 17 33" };
-    assert_eq!(site.share("stock").as_deref(), Some(share));
+    let share = if site.kept(id).unwrap().unwrap() { (16, 34) } else { (17, 33) };
+    assert_eq!(site.share("stock").unwrap(), share);
 }
 
 #[test]
 fn a_stop_of_the_process_loses_what_is_open() {
     let folder = made("stop");
     let program = var("ESCROW_SITE").unwrap();
-    let site = Site::start(&program, &folder).unwrap().with_timeout(Duration::from_millis(1_500));
+    let site = Site::start(&program, &folder).unwrap().with_timeout(IN_TIME);
     let held = site.begin("stock", -2).ok().unwrap();
     let is_ours =
         |it: &String| std::fs::read(format!("/proc/{it}/cmdline")).is_ok_and(|it| it.ends_with(format!("{folder}\0").as_bytes()));
@@ -331,11 +344,11 @@ fn a_stop_of_the_process_loses_what_is_open() {
     let lost = held.id().to_string();
     assert_eq!((held.commit_by_key("a", None).unwrap(), site.change("stock", -1)), (Change::Lost(lost.clone()), Change::Busy));
     assert!(site.change_before("stock", -1, |_| Err::<(), ()>(())).unwrap() == Change::Busy);
-    assert!(!site.end().unwrap().success());
+    assert!(matches!(site.end(), Err(Fault::Ended(it)) if it.signal() == Some(9)));
     let site = Site::start(&program, &folder).unwrap();
     assert_eq!((site.kept(&lost).unwrap(), site.kept_key("a", None).unwrap()), (Some(false), None));
-    let left = if site.kept(&id).unwrap().unwrap() { "share 19 31" } else { "share 20 30" };
-    assert_eq!(site.share("stock").as_deref(), Some(left));
+    let left = if site.kept(&id).unwrap().unwrap() { (19, 31) } else { (20, 30) };
+    assert_eq!(site.share("stock").unwrap(), left);
 }
 
 /// All processes that threads of this one have started.
@@ -347,17 +360,17 @@ fn children() -> Vec<String> {
 
 #[test]
 fn a_dead_reader_holds_nobody_up() {
-    let door = Door::new("reader", &["--slow", "5"]);
+    let door = Door::new("reader", &["--slow", "12"]);
     let mut dead = UnixStream::connect(&door.path).unwrap(); // it asks, and never reads
     dead.set_write_timeout(Some(Duration::from_millis(200))).unwrap();
     let line = b"0 share stock\n".repeat(1 << 16);
     assert!(dead.write_all(&line).is_err(), "all was taken");
-    let site = door.site().with_timeout(Duration::from_secs(5));
+    let site = door.site().with_timeout(Duration::from_secs(60));
     let began = Instant::now();
     (0..10).for_each(|_| drop(committed(site.change("stock", -2))));
-    assert!(began.elapsed() < Duration::from_secs(4)); // while it is there
+    assert!(began.elapsed() < Duration::from_secs(10)); // while it is there
     until(|| dead.write_all(b"0 share stock\n").is_err_and(|it| it.kind() != std::io::ErrorKind::WouldBlock));
-    assert_eq!(site.share("stock").as_deref(), Some("share 0 50"));
+    assert_eq!(site.share("stock").unwrap(), (0, 50));
 }
 
 #[test]
@@ -375,7 +388,7 @@ fn behind_a_program_in_between_the_id_is_known() {
             }
         }
     });
-    let site = Site::connect(&far).unwrap().with_timeout(Duration::from_millis(1_500));
+    let site = Site::connect(&far).unwrap().with_timeout(IN_TIME);
     let first = committed(site.change("stock", -1));
     let held = site.begin("stock", -2).ok().unwrap();
     let id = held.id().to_string();
@@ -385,8 +398,8 @@ fn behind_a_program_in_between_the_id_is_known() {
     door.signal("CONT");
     let site = Site::connect(&far).unwrap();
     assert_eq!((site.kept(&first).unwrap(), site.kept(&id).unwrap().is_some()), (Some(true), true));
-    let share = if site.kept(&id).unwrap().unwrap() { "share 17 33" } else { "share 19 31" };
-    assert_eq!(site.share("stock").as_deref(), Some(share));
+    let share = if site.kept(&id).unwrap().unwrap() { (17, 33) } else { (19, 31) };
+    assert_eq!(site.share("stock").unwrap(), share);
 }
 
 #[test]
@@ -443,14 +456,14 @@ fn a_place_that_comes_late_is_given_back() {
         peer.write_all(hello.as_bytes()).unwrap();
         peer.read_exact(&mut line).unwrap();
         peer.write_all(b"door busy\n").unwrap();
-        thread::sleep(Duration::from_millis(1_500)); // nobody waits any more
+        thread::sleep(2 * IN_TIME); // nobody waits any more
         peer.write_all(b"door place\n").unwrap();
         let mut leave = [0; 6];
         peer.read_exact(&mut leave).unwrap();
         peer.write_all(b"door took 1 1.1\nleave -> left\n").unwrap();
         (line, leave)
     });
-    let site = Site::connect(&path).unwrap().with_timeout(Duration::from_millis(500));
+    let site = Site::connect(&path).unwrap().with_timeout(IN_TIME);
     assert_eq!((site.begin("stock", -1).err(), site.is_up()), (Some(Change::Busy), true));
     assert_eq!(door.join().unwrap(), (*b"0 open stock -1\n", *b"leave\n"));
 }

@@ -84,14 +84,14 @@ fn try_forgotten(folder: &str, site: &Site) {
     assert!(is_forgotten(site.change_by_key("stock", -3, "order", None), "order"), "it would be sold twice");
     assert!(is_forgotten(site.change_by_key("stock", -300, "order", None), "order"), "it may be sold, and not short");
     assert!(is_forgotten(site.begin("stock", -3).unwrap().commit_by_key("order", None), "order"));
-    assert_eq!((site.share("stock"), sold(folder)), (Some("share 17 33".to_string()), 1));
+    assert_eq!((site.share("stock").unwrap(), sold(folder)), ((17, 33), 1));
     tell(folder, r#"{"keyed": "forgotten"}"#);
     assert!(is_forgotten(site.change_by_key("stock", -3, "new", None), "new"));
     tell(folder, r#"{"word": "perhaps", "keyed": "perhaps"}"#);
     assert!(matches!(site.kept(&first), Err(Fault::Line(it)) if it == "perhaps"));
     assert!(matches!(site.kept_key("order", None), Err(Fault::Line(it)) if it == "perhaps"));
     assert!(matches!(site.change_by_key("stock", -3, "new", None), Err(Fault::Line(it)) if it == "perhaps"));
-    assert_eq!((site.share("stock"), sold(folder)), (Some("share 17 33".to_string()), 1));
+    assert_eq!((site.share("stock").unwrap(), sold(folder)), ((17, 33), 1));
 }
 
 #[test]
@@ -137,7 +137,7 @@ fn try_positions(folder: &str, site: &Site) {
     let begun = site.begin("stock", -1).unwrap();
     let fault = begun.commit_by_key("open", Some(&site.position().unwrap())).unwrap_err().to_string();
     assert!(fault.contains("isn't ahead of transaction 1."), "{fault}");
-    assert_eq!((site.share("stock"), sold(folder)), (Some("share 17 33".to_string()), 3));
+    assert_eq!((site.share("stock").unwrap(), sold(folder)), ((17, 33), 3));
 }
 
 #[test]
