@@ -320,7 +320,7 @@ func TestWaitsEnd(t *testing.T) {
 		all := held(t, site, many)
 		for range [2]int{} {
 			began := time.Now()
-			if _, err := site.Begin("stock", 1); err != ErrBusy || time.Since(began) > time.Minute || !site.Up() {
+			if _, err := site.Begin("stock", 1); err != ErrBusy || time.Since(began) > inTime+7500*time.Millisecond || !site.Up() {
 				t.Error(err, time.Since(began), site.Up())
 			}
 		}
@@ -368,7 +368,7 @@ func TestDoorStandsStill(t *testing.T) {
 	if changed, err := begun.Change("seats", -1), begun.Commit(); changed != error(Lost{begun.ID}) || err != error(Lost{begun.ID}) {
 		t.Error(changed, err)
 	}
-	if err := site.End(); !errors.Is(err, ErrDoor) || time.Since(began) > time.Minute {
+	if err := site.End(); !errors.Is(err, ErrDoor) || time.Since(began) > inTime+7500*time.Millisecond {
 		t.Error(err, time.Since(began))
 	}
 	it.signal(syscall.SIGCONT)

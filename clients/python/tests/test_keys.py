@@ -345,7 +345,7 @@ class StoppedTest(TimeTest):
             told.append(id)
             stand_still(pid_of(site))
 
-        fault = self.late(lambda: site.change("stock", -20, before, key="order", timeout=5.0), escrow.Unknown)
+        fault = self.late(lambda: site.change("stock", -20, before, key="order", timeout=2.0), escrow.Unknown)
         assert isinstance(fault, escrow.Unknown)
         self.assertEqual((fault.id, fault.key, told), (of_shop("1.1"), "order", [of_shop("1.1")]))
         self.assertIn("key order", str(fault))

@@ -178,7 +178,7 @@ class StartTest(DiskTest):
         began = time.monotonic()
         with self.assertRaises(escrow.Down) as raised:
             escrow.Site(folder, program=escrow_site(), wait=4.0)  # in which it is tried once
-        self.assertLess(time.monotonic() - began, 4.0 + LONG)
+        self.assertLess(time.monotonic() - began, 4.0 + 2.8)
         self.assertEqual(raised.exception.status, 5)
         self.assertIn(FULL, str(raised.exception))
         metrics = Metrics(0)

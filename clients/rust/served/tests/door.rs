@@ -240,7 +240,7 @@ fn a_wait_for_a_place_ends_and_loses_none() {
         for _ in 0..2 {
             let began = Instant::now();
             assert_eq!(site.begin("stock", 1).err(), Some(Change::Busy));
-            assert!(began.elapsed() < Duration::from_secs(60) && site.is_up());
+            assert!(began.elapsed() < IN_TIME + Duration::from_millis(7_500) && site.is_up());
         }
         drop(all);
         drop(held(&site, many));
@@ -280,7 +280,7 @@ fn what_a_door_has_not_taken_is_busy_and_never_made() {
     assert!(matches!((site.kept("1.0"), site.kept_key("a", None)), (Err(Fault::Stopped), Err(Fault::Stopped))));
     assert_eq!(held.change("seats", -1), Err(Change::Lost(id.clone())));
     assert_eq!(held.commit(), Change::Lost(id.clone()));
-    assert!(began.elapsed() < Duration::from_secs(60) && !site.is_up());
+    assert!(began.elapsed() < IN_TIME + Duration::from_millis(7_500) && !site.is_up());
     drop(site);
     door.signal("CONT");
     let site = door.site();
