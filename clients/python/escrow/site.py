@@ -464,6 +464,7 @@ class Site:
         """Lets the site answer what it was asked, and ends its process: by force after so many seconds.
 
         Calls that weren't asked of it yet raise `Down`; open transactions are aborted. Closing twice does no harm.
+        Not for a handler of signals, which would wait for what it has interrupted: raise there, as `SystemExit`, and close behind it.
         """
         if self._is_fork:
             return

@@ -19,7 +19,7 @@ from ..refused import joined, wanted_mark
 from ..room import has_room
 from ..schema import Identity, identity
 from ..site import lock_folder
-from ..supervisor import FULL, HOPELESS, LOOK, Backoff, hopeless
+from ..supervisor import FULL, HOPELESS, LOOK, SCARCE, Backoff, hopeless
 from ..values import Mark
 from .listening import Place, passed
 from .run import Limits, Run
@@ -107,7 +107,11 @@ class Door:
         try:
             served = Served(self._command, self._mark)
         except OSError as fault:
-            return Ended(2, f"{self._command[0]}: {fault.strerror}: name escrow_site by --program or by $ESCROW_SITE")
+            told = f"{self._command[0]}: {fault.strerror}"
+            if fault.errno not in SCARCE:
+                return Ended(2, f"{told}: name escrow_site by --program or by $ESCROW_SITE")
+            log.warning("%s: the site isn't started for a moment: %s", self.folder, told)
+            return Ended(1, told)
         try:
             ready = served.ready(self._signalled)
             if ready is not None:
@@ -118,6 +122,11 @@ class Door:
         except Faulty as fault:
             log.error("%s: %s", self.folder, fault)
             served.kill()
+        except OSError as fault:
+            served.kill()
+            if fault.errno not in SCARCE:
+                raise
+            log.error("%s: the connections are ended: %s", self.folder, fault.strerror)
         except BaseException:
             served.kill()
             raise

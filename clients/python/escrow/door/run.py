@@ -11,8 +11,10 @@ Where it can't be told none goes. So what is under way as a door dies is known a
 
 from __future__ import annotations
 
+import contextlib
 import logging
 import os
+import resource
 import select
 import socket
 from collections import deque
@@ -23,7 +25,7 @@ from typing import NamedTuple
 from ..errors import Faulty
 from ..records import Records
 from ..schema import Identity
-from ..supervisor import Ready, ready_line
+from ..supervisor import SCARCE, Ready, ready_line
 from ..values import Mark
 from .connection import Connection, Gone
 from .plan import Part, Planner
@@ -35,8 +37,10 @@ PIPE = 1 << 16
 """How many bytes one read of the site's answers takes."""
 PART, MOST_PAUSE = 2, 0.004
 """Behind a batch the door waits at most half of the time that it took, and so many seconds."""
-MOST_CONNECTIONS = 512
-MANY = f"{MOST_CONNECTIONS} connections are there, and no more may be: end some"
+MOST_CONNECTIONS, SPARE = 512, 32
+"""So many connections are there at most, and so many descriptors are left for all else: the process of the site, and its log."""
+AGAIN = 1.0
+"""Where nobody could be let in for want of a descriptor it is tried again after so many seconds."""
 LAST = 5.0
 """Seconds that an end takes at most."""
 IN, OUT, END = select.EPOLLIN, select.EPOLLOUT, select.EPOLLHUP | select.EPOLLERR
@@ -64,7 +68,6 @@ class Run:
         names = f"escrow door {VERSION}\nnumber {site.number}\nworld {site.world}\n{site.schema.line()}\n"
         self._hello = f"{names}{ready_line(ready)}".encode()
         self._begun = f"{site.number} begin -> begun "
-        self._token = os.open(os.devnull, os.O_RDONLY | os.O_CLOEXEC)
         self._connections: dict[int, Connection] = {}
         self._stuck: set[Connection] = set()
         # What goes to the site.
@@ -79,8 +82,11 @@ class Run:
         self._answered: set[Connection] = set()
         self._expected: set[Connection] = set()
         self.is_ending, self._end_by = False, 0.0
+        self._most = max(1, min(MOST_CONNECTIONS, resource.getrlimit(resource.RLIMIT_NOFILE)[0] - SPARE))
+        self._accepts_at = 0.0  # when the next may come in again; 0 while all may
         self._epoll = select.epoll()
         self._acts: dict[int, Callable[[int], None]] = {}
+        self._token = os.open(os.devnull, os.O_RDONLY | os.O_CLOEXEC)
 
     def run(self) -> None:
         """Returns once the process of the site has ended, or all is answered behind the signal. Raises `Faulty`."""
@@ -95,6 +101,7 @@ class Run:
                         act(events)
                 self._send_batch()
                 self._end_stuck()
+                self._accept_again()
         finally:
             self._close()
 
@@ -113,20 +120,23 @@ class Run:
         if self._expected and self._out and not self._under_way:
             select.select((self._epoll,), (), (), max(0.0, self._until - monotonic()))  # it waits for parts of a millisecond
             return self._epoll.poll(0)
-        return self._epoll.poll(0.2 if self._stuck or self.is_ending else None)
+        return self._epoll.poll(0.2 if self._stuck or self.is_ending or self._accepts_at else None)
 
     # Connections.
 
     def _accept(self, events: int) -> None:
         try:
             peer, _ = self._listener.accept()
-        except OSError:
+        except OSError as fault:
+            if fault.errno in SCARCE:
+                self._accept_later(str(fault.strerror))
             return
         peer.setblocking(False)
-        if len(self._connections) >= MOST_CONNECTIONS:
-            log.warning("%s", MANY)
-            peer.send(f"door end {MANY}\n".encode())
-            peer.close()
+        if len(self._connections) >= self._most:
+            many = f"{self._most} connections are there, and no more may be: end some"
+            log.warning("%s", many)
+            with peer, contextlib.suppress(OSError):  # it may be gone already
+                peer.send(f"door end {many}\n".encode())
             return
         who = self._connections[peer.fileno()] = Connection(peer)
         self._watch(peer.fileno(), IN, lambda events: self._look(who, events))
@@ -137,6 +147,17 @@ class Run:
             return
         if who.out:
             self._attend(who)
+
+    def _accept_later(self, why: str) -> None:
+        """Who comes waits, and isn't tried over and over."""
+        log.warning("nobody can come in for a moment: %s", why)
+        self._unwatch(self._listener.fileno())
+        self._accepts_at = monotonic() + AGAIN
+
+    def _accept_again(self) -> None:
+        if self._accepts_at and monotonic() >= self._accepts_at and not self.is_ending:
+            self._accepts_at = 0.0
+            self._watch(self._listener.fileno(), IN, self._accept)
 
     def _look(self, who: Connection, events: int) -> None:
         if events & END:
@@ -348,7 +369,8 @@ class Run:
 
     def _end_soon(self, events: int) -> None:
         self._unwatch(self._signalled)
-        self._unwatch(self._listener.fileno())
+        if not self._accepts_at:
+            self._unwatch(self._listener.fileno())
         self._finish()
 
     def _finish(self) -> None:

@@ -2,6 +2,7 @@
 
 from __future__ import annotations
 
+import errno
 import logging
 import os
 import select
@@ -37,13 +38,18 @@ class Served:
     """The process. Ends of its pipes are this one's own: they don't block."""
 
     def __init__(self, command: Sequence[str], mark: Optional[Mark]) -> None:
-        """Starts it; with `mark` it refuses a log that is older. Raises `OSError`."""
+        """Starts it; with `mark` it refuses a log that is older. Raises `OSError`, also for want of a thread."""
         later = [] if mark is None else ["--not-before", str(mark.epoch), str(mark.length)]
         pipe = subprocess.PIPE
         self._process = subprocess.Popen([*command, *later], stdin=pipe, stdout=pipe, stderr=pipe, bufsize=0,
                                          start_new_session=True, restore_signals=False)  # fmt: skip
         assert self._process.stdin and self._process.stdout and self._process.stderr
-        self._complaints = Complaints(self._process.stderr, log)
+        try:
+            self._complaints = Complaints(self._process.stderr, log)
+        except RuntimeError as fault:  # no thread is to be had
+            with self._process:
+                self.kill()
+            raise OSError(errno.EAGAIN, str(fault)) from fault
         self.to, self.back = self._process.stdin.fileno(), self._process.stdout.fileno()
         os.set_blocking(self.to, False)
 
