@@ -367,6 +367,39 @@ def refuse_output_in_a_folder(program: Program) -> None:
         raise Fault(f"{site.folder}: not served into another file")
 
 
+def refuse_output_of_any_line(program: Program) -> None:
+    """Nor is anything told there by a command that names no folder, or another one, nor of a line that asks for nothing."""
+    site, other = (program.created(name, SHOP, number, True) for number, name in enumerate(("any", "any1")))
+    schema = ["--schema", program.file("schema.json", f"{SHOP.header()}\n"), "--site", "0", "--name", SHOP.own_name]
+    lines = ([], ["version"], ["--help"], ["serve"], ["show", other.folder, "--nothing"], ["create", site.folder, *schema],
+             ["create", f"{site.folder}2", *schema], *([it, other.folder] for it in ("serve", *READS)))  # fmt: skip
+    program.ends(["serve", "--trace", site.folder], 0, FIRST.format(1, 4, 1), "")
+    before = files_of(site.folder), files_of(other.folder)
+    for name, words in itertools.product(sorted(before[0]), lines):
+        path = f"{site.folder}/{name}"
+        with open(path, "ab") as stream:
+            program.ends(words, 3, "", f"{path}: is where standard output goes: send that elsewhere", stdout=stream)
+            told = f"escrow_site: {path}: is where standard error goes: send that elsewhere\n"
+            program.ends(words, 3, told, "", stderr=stream)
+            program.ends(words, 3, "", "", stdout=stream, stderr=stream)
+    if (files_of(site.folder), files_of(other.folder)) != before or os.path.exists(f"{site.folder}2"):
+        raise Fault(f"{site.folder}, {other.folder}: refused, and changed")
+    let_output_into_a_log_of_no_site(program)
+
+
+def let_output_into_a_log_of_no_site(program: Program) -> None:
+    """A file `log` may be anybody's."""
+    for name, text in (("plain", None), ("damaged", "escrow site 2\nnumber 0\n")):
+        os.mkdir(os.path.join(program.folder, name))
+        if text is not None:
+            program.file(f"{name}/site", text)
+        with open(program.put(f"{name}/log", b""), "r+b") as stream:
+            program.ends(["version"], 0, "", "", stdout=stream)
+            stream.seek(0)
+            if not stream.read().startswith(b"escrow_site "):
+                raise Fault(f"{name}/log: the version isn't told")
+
+
 NO_TRACE = "isn't there: only a site that was always served with --trace has one"
 NOT_ITS_TRACE = "isn't the trace of this site: put its own newest trace back"
 BEHIND = "is behind its log, which has records of no entry in it: put its own newest trace back"
@@ -673,6 +706,7 @@ MISUSES = (
     refuse_marked_copy,
     refuse_files_as_folders,
     refuse_output_in_a_folder,
+    refuse_output_of_any_line,
     refuse_folder_lists,
     refuse_worlds,
     refuse_two_faults,

@@ -8,6 +8,7 @@ import shutil
 import sys
 
 from escrow.program import find_program
+from escrow.streams import refuse_streams
 
 from .board import Board
 from .server import BoardServer
@@ -81,6 +82,7 @@ def once(args: argparse.Namespace) -> int:
 
 def main() -> int:
     """Serves until it is interrupted. Status 1 where the address can't be had."""
+    refuse_streams("escrow_board")
     args = arguments()
     if args.once:
         return once(args)

@@ -10,12 +10,14 @@ import sys
 
 from escrow import Down
 from escrow.schema import identity
+from escrow.streams import refuse_streams
 
 from .messages import Topics
 
 
 def main(folders: list[str]) -> int:
     """An entry for each folder. The status."""
+    refuse_streams("escrow_carrier")
     if folders and folders[0] in ("-h", "--help"):
         print(__doc__)
         return 0

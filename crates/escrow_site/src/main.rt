@@ -78,7 +78,7 @@ fn tell_refused(rt: &(impl Print + Eprint), error: &Error) -> u8 {
 
 /// Tells a fault where that isn't among the records of a site: on standard error, or else on standard
 /// output, or nowhere.
-fn tell_apart(rt: &HostRuntime, task: &Task, fault: &Fault) -> u8 {
+fn tell_apart(rt: &HostRuntime, task: Option<&Task>, fault: &Fault) -> u8 {
     if !streams::is_refused(rt, task, Stream::Error) {
         return tell(rt, fault);
     }
@@ -88,22 +88,29 @@ fn tell_apart(rt: &HostRuntime, task: &Task, fault: &Fault) -> u8 {
     fault.status()
 }
 
+// Tells why the command line asks for no task, where no stream goes to a file of a site.
+fn refuse_line(rt: &HostRuntime, error: &Error) -> u8 {
+    match streams::refuse_streams(rt, None) {
+        Ok(()) => tell_refused(rt, error),
+        Err(fault) => tell_apart(rt, None, &fault),
+    }
+}
+
 // Carries a task out, once no file that it opens can take the number of a standard stream, and no stream
 // goes to a file of a site.
 fn in_order(rt: &HostRuntime, task: &Task) -> Result<u8, Fault> {
     streams::take_closed(rt)?;
-    streams::refuse_stream(rt, task, Stream::Output)?;
-    streams::refuse_stream(rt, task, Stream::Error)?;
+    streams::refuse_streams(rt, Some(task))?;
     carry_out(rt, task)
 }
 
 fn main(rt: HostRuntime) -> ExitCode {
     let task = match read_task(&rt) {
         Ok(task) => task,
-        Err(error) => return ExitCode::from(tell_refused(&rt, &error)),
+        Err(error) => return ExitCode::from(refuse_line(&rt, &error)),
     };
     match in_order(&rt, &task) {
         Ok(status) => ExitCode::from(status),
-        Err(fault) => ExitCode::from(tell_apart(&rt, &task, &fault)),
+        Err(fault) => ExitCode::from(tell_apart(&rt, Some(&task), &fault)),
     }
 }

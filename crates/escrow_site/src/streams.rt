@@ -7,7 +7,7 @@ use std::io::{self, ErrorKind};
 use std::os::fd::{AsRawFd, IntoRawFd};
 use std::os::unix::fs::MetadataExt;
 use std::slice;
-use world_folders::Paths;
+use world_folders::{Paths, read_site};
 
 /// The greatest number of a standard stream.
 const LAST: i32 = 2;
@@ -91,35 +91,66 @@ fn refuse_folder(
     refuse_file(rt, paths.not_before.as_str(), stream, goes_to)
 }
 
-// The folders that a task names, but for one that it is to make.
+// Refuses the folder of the file to which a stream goes, by the name that the system has for that, where
+// it is one of a site's files: whether a task names the folder or not.
+fn refuse_home(rt: &HostRuntime, stream: Stream, goes_to: (u64, u64)) -> Result<(), Fault> {
+    let Ok(file) = fs::read_link(rt, stream.path()) else {
+        return Ok(());
+    };
+    let Some(home) = file.parent().filter(|home| home.is_absolute()) else {
+        return Ok(()); // a pipe, or a socket
+    };
+    let Err(fault) = refuse_folder(rt, home.as_str(), stream, goes_to) else {
+        return Ok(());
+    };
+    let paths = Paths::new(rt.alloc(), home.as_str())?;
+    match read_site(rt, rt.alloc(), &paths) {
+        Ok(_) => Err(fault),
+        Err(_) => Ok(()),
+    }
+}
+
+// The folders that a task names.
 fn folders_of(task: &Task) -> &[String] {
     match task {
-        Task::Serve { folder, .. } | Task::Show { folder } | Task::Verify { folder } => {
-            slice::from_ref(folder)
-        }
+        Task::Create { folder, .. }
+        | Task::Serve { folder, .. }
+        | Task::Show { folder }
+        | Task::Verify { folder } => slice::from_ref(folder),
         Task::Check { folders }
         | Task::Settle { folders, .. }
         | Task::Weave { folders }
         | Task::Judge { folders } => folders.as_slice(),
-        Task::Create { .. } | Task::Version => &[],
+        Task::Version => &[],
     }
 }
 
-/// Refuses the folders of a task where a stream goes to a file of one, as by `>> FOLDER/log`: answers, or
-/// the text of a fault, would stand among its records. Where the system doesn't tell which file that is,
-/// nothing is refused.
-pub(crate) fn refuse_stream(rt: &HostRuntime, task: &Task, stream: Stream) -> Result<(), Fault> {
+/// Refuses a stream that goes to a file of a site, as by `>> FOLDER/log`: of a folder that the task names,
+/// or of that in which the file lies. Answers, or the text of a fault, would stand among its records.
+/// Where the system doesn't tell which file that is, nothing is refused. No task is one that the command
+/// line doesn't tell.
+pub(crate) fn refuse_stream(
+    rt: &HostRuntime,
+    task: Option<&Task>,
+    stream: Stream,
+) -> Result<(), Fault> {
     let Ok(goes_to) = node_at(rt, stream.path()) else {
         return Ok(());
     };
-    for folder in folders_of(task) {
+    for folder in task.map_or(&[] as &[String], folders_of) {
         refuse_folder(rt, folder.as_str(), stream, goes_to)?;
     }
-    Ok(())
+    refuse_home(rt, stream, goes_to)
 }
 
-/// Whether a stream goes to a file of a folder of a task, as far as the system tells.
-pub(crate) fn is_refused(rt: &HostRuntime, task: &Task, stream: Stream) -> bool {
+/// The same of both streams.
+pub(crate) fn refuse_streams(rt: &HostRuntime, task: Option<&Task>) -> Result<(), Fault> {
+    refuse_stream(rt, task, Stream::Output)?;
+    refuse_stream(rt, task, Stream::Error)
+}
+
+/// Whether a stream goes to a file of a site, as far as the system tells.
+pub(crate) fn is_refused(rt: &HostRuntime, task: Option<&Task>, stream: Stream) -> bool {
     match refuse_stream(rt, task, stream) {
         Err(Fault::Refused(_, _)) => true,
         Ok(()) | Err(_) => false,

@@ -19,6 +19,7 @@ from ..refused import joined, wanted_mark
 from ..room import has_room
 from ..schema import Identity, identity
 from ..site import lock_folder
+from ..streams import refuse_streams
 from ..supervisor import FULL, HOPELESS, LOOK, SCARCE, Backoff, hopeless
 from ..values import Mark
 from .listening import Place, passed
@@ -173,6 +174,7 @@ def _signals() -> int:
 
 def main() -> int:
     """Opens the door: the status to end with."""
+    refuse_streams("escrow.door")
     logging.basicConfig(format="escrow.door: %(message)s", level=logging.INFO)
     door: Optional[Door] = None
     try:
