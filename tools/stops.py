@@ -1,9 +1,9 @@
 #!/usr/bin/env python3
 """Finds the files that name a command, a reply, a refusal, a limit or a kind of record: where the next of its kind has to go.
 
-    tools/stops.py [CASE]
+    tools/stops.py [CASES]
 
-With a case (a letter of CASES) the files, one a line, crates by their floors, the lowest first; without one all files, by
+With cases (letters of CASES, as `ca`) the files, one a line, crates by their floors, the lowest first; without any all files, by
 crate. It looks through what git has, docs/ and packed/ left out: in .rt and .antt outside
 comments, but for `tighten`, which has no other sense. It needs Python 3.10, git and the standard library alone.
 """
@@ -42,6 +42,10 @@ CASES = {
 }
 COMMENT = {".antt": re.compile(r"--.*"), ".rt": re.compile(r"//.*")}
 LEFT_OUT = ("docs/", "packed/", "README.md", "tools/stops.py", "tools/spelled.py")
+SAME_WORD = ("clients/python/escrow_carrier/", "clients/python/tests/test_carrier")
+"""There a message of carriers, and a folder over a network, are called as the neighbour of `c` and `a` is."""
+COUNTED = re.compile(r"\d (?:steps|answers) as told")
+"""What a program prints that counts the rows of its source: it changes where these do."""
 
 
 def letters_of(file: str) -> str:
@@ -53,7 +57,8 @@ def letters_of(file: str) -> str:
         pattern = case.code if suffix in COMMENT else case.other
         return case.stem in small and (not pattern or re.search(pattern, bare) is not None)
 
-    return "".join(it for it, case in CASES.items() if names(case))
+    others = "ca" if file.startswith(SAME_WORD) else ""
+    return "".join(it for it, case in CASES.items() if it not in others and names(case))
 
 
 def found() -> dict[str, str]:
@@ -64,6 +69,10 @@ def found() -> dict[str, str]:
         return order.get(file.split("/")[1], len(order)) if file.startswith("crates/") else len(order) + 1, file
 
     cases = {file: letters_of(file) for file in sorted(tracked(), key=place) if not file.startswith(LEFT_OUT)}
+    for file in cases:
+        if file.endswith("/stdout") and COUNTED.search(text_of(file)):
+            rows = [it for other, it in cases.items() if other.startswith(f"{os.path.dirname(file)}/src/")]
+            cases[file] = joined([cases[file], *rows])
     return {file: letters for file, letters in cases.items() if letters}
 
 
@@ -121,10 +130,11 @@ def stops() -> str:
 
 
 def main() -> int:
-    if len(sys.argv) > 2 or sys.argv[1:] and sys.argv[1] not in CASES:
+    wanted = set("".join(sys.argv[1:2]))
+    if len(sys.argv) > 2 or not wanted <= set(CASES):
         print(__doc__, *(f"{it}: {case.what}" for it, case in CASES.items()), sep="\n", file=sys.stderr)
         return 2
-    print("\n".join(it for it, cases in found().items() if sys.argv[1] in cases) if sys.argv[1:] else stops())
+    print("\n".join(it for it, cases in found().items() if wanted & set(cases)) if wanted else stops())
     return 0
 
 
