@@ -173,6 +173,8 @@ func greet(site *Site, pipe *os.File, out *bufio.Reader, limit time.Duration) (*
 		case !isInTime():
 			return nil, fmt.Errorf("escrow: %s doesn't answer: it didn't serve within %v, and was killed: see whether the program or the "+
 				"disk stands still, and start it again", program, limit)
+		case status != nil && strings.HasPrefix(told, "escrow_site: "): // its standard error goes to a file of a site
+			return nil, fmt.Errorf("%s: %w", strings.TrimSpace(told), status)
 		case status != nil:
 			return nil, status
 		case told == "":

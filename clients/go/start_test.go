@@ -101,6 +101,7 @@ func TestTexts(t *testing.T) {
 	_, none := Start(program, folder+"0")
 	_, noProgram := Start(folder, folder)
 	_, noLine := Start(silent, folder)
+	_, noStream := Start(script(t, "echo escrow_site: shop/log: is where standard error goes: send that elsewhere; exit 3"), folder)
 	_, tooLong := Connect(strings.Repeat("x", 108))
 	still := noWay("shop.door", doorFault{"it doesn't answer: its site doesn't stand yet, or it stands still"})
 	for _, it := range []struct {
@@ -111,6 +112,8 @@ func TestTexts(t *testing.T) {
 		{none, "escrow: open " + folder + "0/site: no such file or directory: make the folder by escrow_site create, once, or put it back"},
 		{noProgram, "escrow: the program isn't started: fork/exec " + folder + ": permission denied"},
 		{noLine, "escrow: " + silent + " has ended without a line: it isn't escrow_site: name that one"},
+		{noStream, "escrow_site: shop/log: is where standard error goes: send that elsewhere: escrow: escrow_site has ended with status 3: " +
+			"standard error tells why, and what to do"},
 		{still, "escrow: no way in by this door: shop.door: it doesn't answer: its site doesn't stand yet, or it stands still: its standard " +
 			"error tells more"},
 		{tooLong, "escrow: no way in by this door: dial unix " + strings.Repeat("x", 108) + ": connect: invalid argument: a path of a socket " +
@@ -119,6 +122,10 @@ func TestTexts(t *testing.T) {
 		if it.err == nil || it.err.Error() != it.told {
 			t.Error(it.err)
 		}
+	}
+	var ended Ended
+	if !errors.As(noStream, &ended) || ended.Status != 3 {
+		t.Error(noStream)
 	}
 	if !errors.Is(none, os.ErrNotExist) || !errors.Is(noProgram, os.ErrPermission) || !errors.Is(still, ErrDoor) {
 		t.Error(none, noProgram, still)

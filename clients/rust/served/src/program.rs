@@ -37,8 +37,12 @@ pub(crate) fn start(program: &str, folder: &str, options: &[&str]) -> Result<Pro
         told => {
             let _ = input.get_ref().shutdown(Shutdown::Write); // it ends
             let status = wait_for(&mut child, end).map_err(Fault::Io)?;
-            let fault = told.err().unwrap_or(Fault::Line(whose));
-            Err(if status.success() || left(end).is_zero() { fault } else { Fault::Ended(status) })
+            Err(match told.err().unwrap_or(Fault::Line(whose)) {
+                fault if status.success() || left(end).is_zero() => fault,
+                // Its standard error, which is this program's, goes to a file of a site.
+                Fault::Line(told) if told.starts_with("escrow_site: ") => Fault::Io(Error::new(ErrorKind::Other, told)),
+                _ => Fault::Ended(status),
+            })
         }
     }
 }

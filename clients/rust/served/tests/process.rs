@@ -217,14 +217,25 @@ fn a_timeout_of_zero_is_none() {
     assert!(site.end().unwrap().success());
 }
 
+/// A program in this folder, of this text.
+fn script(folder: &str, text: &str) -> String {
+    let program = format!("{folder}/program");
+    let words = ["-c", "printf %s \"$0\" > $1; chmod 755 $1", text, &program]; // so that no fork keeps it open
+    assert!(Command::new("sh").args(words).status().unwrap().success());
+    program
+}
+
+#[test]
+fn a_refusal_that_standard_error_can_not_tell_is_the_fault() {
+    let (folder, told) = (made("stream"), "escrow_site: shop/log: is where standard error goes: send that elsewhere");
+    let program = script(&folder, &format!("#!/bin/sh\necho {told}\nexit 3\n"));
+    assert_eq!(Site::start(&program, &folder).err().unwrap().to_string(), told);
+}
+
 #[test]
 fn a_program_that_tells_nothing_is_killed() {
     let folder = made("silent");
-    let program = format!("{folder}/program");
-    let text = "#!/bin/sh\necho $$ > $2/process\nexec sleep 600\n";
-    let words = ["-c", "printf %s \"$0\" > $1; chmod 755 $1", text, &program]; // so that no fork keeps it open
-    let write = Command::new("sh").args(words).status();
-    assert!(write.unwrap().success());
+    let program = script(&folder, "#!/bin/sh\necho $$ > $2/process\nexec sleep 600\n");
     let (told, tells) = channel();
     thread::spawn({
         let folder = folder.clone();
