@@ -389,7 +389,7 @@ def refuse_output_of_any_line(program: Program) -> None:
 
 def let_output_into_a_log_of_no_site(program: Program) -> None:
     """A file `log` may be anybody's."""
-    for name, text in (("plain", None), ("damaged", "escrow site 2\nnumber 0\n")):
+    for name, text in (("of_nobody", None), ("of_no_site", "escrow site 2\nnumber 0\n")):
         os.mkdir(os.path.join(program.folder, name))
         if text is not None:
             program.file(f"{name}/site", text)
