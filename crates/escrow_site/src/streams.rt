@@ -110,18 +110,17 @@ fn refuse_home(rt: &HostRuntime, stream: Stream, goes_to: (u64, u64)) -> Result<
     }
 }
 
-// The folders that a task names.
+// The folders that a task names, but for one that it is to make.
 fn folders_of(task: &Task) -> &[String] {
     match task {
-        Task::Create { folder, .. }
-        | Task::Serve { folder, .. }
-        | Task::Show { folder }
-        | Task::Verify { folder } => slice::from_ref(folder),
+        Task::Serve { folder, .. } | Task::Show { folder } | Task::Verify { folder } => {
+            slice::from_ref(folder)
+        }
         Task::Check { folders }
         | Task::Settle { folders, .. }
         | Task::Weave { folders }
         | Task::Judge { folders } => folders.as_slice(),
-        Task::Version => &[],
+        Task::Create { .. } | Task::Version => &[],
     }
 }
 
