@@ -13,6 +13,7 @@ import unittest.mock
 from doors import Door, DoorTest, Hand, children_of, kill_child
 from programs import LONG, SHOP, escrow_site, of_shop, wait_until
 import escrow
+from escrow.door.run import most_connections
 from escrow.door.served import Served
 
 MOST = 512
@@ -90,6 +91,11 @@ class CrowdTest(DoorTest):
         self.assertEqual(site.change("stock", -3, key="order", since=site.position()), of_shop("2.1"))
         hands[0].close()
         wait_until(lambda: self.told(door) == "escrow door 1")
+
+    def test_how_many_may_be_there(self) -> None:
+        for limit, many in ((resource.RLIM_INFINITY, 512), (1 << 20, 512), (544, 512), (543, 511), (33, 1), (3, 1)):
+            with unittest.mock.patch("resource.getrlimit", lambda _, soft=limit: (soft, resource.RLIM_INFINITY)):
+                self.assertEqual(most_connections(), many)
 
     def test_who_finds_no_descriptor_waits_and_the_door_rests(self) -> None:
         door = self.door(SHOP)

@@ -46,6 +46,12 @@ LAST = 5.0
 IN, OUT, END = select.EPOLLIN, select.EPOLLOUT, select.EPOLLHUP | select.EPOLLERR
 
 
+def most_connections() -> int:
+    """How many may be there, by the descriptors that this process may have."""
+    limit = resource.getrlimit(resource.RLIMIT_NOFILE)[0]
+    return MOST_CONNECTIONS if limit == resource.RLIM_INFINITY else max(1, min(MOST_CONNECTIONS, limit - SPARE))
+
+
 class Limits(NamedTuple):
     """What ends a connection: that it takes no answer for so many seconds, and how many bytes wait for it at most."""
 
@@ -82,7 +88,7 @@ class Run:
         self._answered: set[Connection] = set()
         self._expected: set[Connection] = set()
         self.is_ending, self._end_by = False, 0.0
-        self._most = max(1, min(MOST_CONNECTIONS, resource.getrlimit(resource.RLIMIT_NOFILE)[0] - SPARE))
+        self._most = most_connections()
         self._accepts_at = 0.0  # when the next may come in again; 0 while all may
         self._epoll = select.epoll()
         self._acts: dict[int, Callable[[int], None]] = {}
