@@ -87,7 +87,8 @@ class CrowdTest(DoorTest):
             resource.setrlimit(resource.RLIMIT_NOFILE, (soft, hard))
         site = self.connected(door)
         hands = self.fill(door, 7)
-        self.assertEqual(self.told(door), "door end 8 connections are there, and no more may be: end some")
+        self.assertEqual(self.told(door), "door end 8 connections are there, and no more may be: end some, or let the door have "
+                         "more descriptors (ulimit -n)")
         self.assertEqual(site.change("stock", -3, key="order", since=site.position()), of_shop("2.1"))
         hands[0].close()
         wait_until(lambda: self.told(door) == "escrow door 1")

@@ -139,7 +139,8 @@ class Run:
             return
         peer.setblocking(False)
         if len(self._connections) >= self._most:
-            many = f"{self._most} connections are there, and no more may be: end some"
+            more = "" if self._most == MOST_CONNECTIONS else ", or let the door have more descriptors (ulimit -n)"
+            many = f"{self._most} connections are there, and no more may be: end some{more}"
             log.warning("%s", many)
             with peer, contextlib.suppress(OSError):  # it may be gone already
                 peer.send(f"door end {many}\n".encode())
