@@ -18,8 +18,10 @@ import time
 from bisect import bisect_left
 from collections import Counter
 from enum import Enum
-from http.server import BaseHTTPRequestHandler, ThreadingHTTPServer
+from http.server import BaseHTTPRequestHandler
 from typing import Callable, Iterable, Mapping, NamedTuple, Protocol, Sequence
+
+from .page_server import PageServer
 
 _NAME = re.compile("[a-z][a-z0-9_]*")
 CONTENT_TYPE = "text/plain; version=0.0.4; charset=utf-8"
@@ -320,10 +322,8 @@ def write(path: str, sites: Iterable[Metrics]) -> None:
         raise
 
 
-class MetricsServer(ThreadingHTTPServer):
+class MetricsServer(PageServer):
     """Answers `GET /metrics` until it is closed."""
-
-    daemon_threads = True
 
     def __init__(self, address: tuple[str, int], sites: Sequence[Metrics], refresh: Callable[[], None] | None) -> None:
         super().__init__(address, _Handler)

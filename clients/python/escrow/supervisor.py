@@ -2,7 +2,6 @@
 
 from __future__ import annotations
 
-import errno
 import logging
 import os
 import re
@@ -22,6 +21,7 @@ from .pipeline import Pipeline, Watch
 from .records import served_between
 from .refused import advice
 from .room import has_room
+from .scarce import SCARCE
 from .values import Mark
 
 log = logging.getLogger("escrow")
@@ -34,8 +34,6 @@ HOPELESS = (2, 3, DISK)
 """Statuses behind which it isn't started again: 2 and 3 would come again. 5 is a fault of the disk: until it is mended, what the
 system shows of the log may not be on the disk. Where the disk is full it is none: what is written stays, and is synced by the
 next start."""
-SCARCE = (errno.EMFILE, errno.ENFILE, errno.ENOMEM, errno.EAGAIN)
-"""Descriptors, memory or processes that aren't to be had: there may be some again soon."""
 FULL = ": the disk is full: make room on it: the site starts again by itself once 64 KiB can be written in its folder"
 LOOK = 0.5
 """Seconds between two looks for calls that have waited too long, where a start takes long, and for room on the disk."""

@@ -3,7 +3,9 @@ from __future__ import annotations
 
 import json
 import os
-from http.server import BaseHTTPRequestHandler, ThreadingHTTPServer
+from http.server import BaseHTTPRequestHandler
+
+from escrow.page_server import PageServer
 
 from .board import Board
 
@@ -12,10 +14,8 @@ POLICY = "default-src 'none'; script-src 'unsafe-inline'; style-src 'unsafe-inli
 LOCAL = ("127.0.0.1", "localhost", "[::1]")
 
 
-class BoardServer(ThreadingHTTPServer):
+class BoardServer(PageServer):
     """Answers `/`, the page, and `/world.json`, what the board tells. It takes no other request and changes nothing."""
-
-    daemon_threads = True
 
     def __init__(self, address: tuple[str, int], board: Board) -> None:
         super().__init__(address, _Handler)

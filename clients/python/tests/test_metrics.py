@@ -3,10 +3,14 @@ from __future__ import annotations
 
 import asyncio
 import contextlib
+import errno
+import io
 import math
 import os
 import re
 import signal
+import socket
+import struct
 import tempfile
 import threading
 import time
@@ -19,6 +23,7 @@ import programs
 
 import escrow
 from escrow.metrics import CONTENT_TYPE, LONGEST, LOOK, Metrics, Type, serve, text_of, write
+from escrow.page_server import PageServer
 
 NAME = re.compile(r"[a-zA-Z_:][a-zA-Z0-9_:]*")
 SAMPLE = re.compile(r"([a-zA-Z_:][a-zA-Z0-9_:]*)(?:\{(.*)\})? (\S+)")
@@ -332,6 +337,53 @@ class Written(unittest.TestCase):
         try:
             with self.assertRaises(OSError):
                 serve([told()], port=server.port)
+        finally:
+            server.close()
+
+
+class Left(unittest.TestCase):
+    """Who goes away before the answer, and a moment without descriptors."""
+
+    def test_nothing_is_told_of_one_that_has_gone(self) -> None:
+        heard, before = threading.Event(), PageServer.shutdown_request
+
+        def ends(server: PageServer, request: object) -> None:
+            before(server, request)  # type: ignore[arg-type]
+            heard.set()
+
+        with unittest.mock.patch.object(PageServer, "shutdown_request", ends), unittest.mock.patch("sys.stderr", io.StringIO()) as heard_of:
+            server = serve([told()])
+            try:
+                with socket.create_connection(("127.0.0.1", server.port)) as peer:
+                    peer.send(b"GET /metrics")  # no whole line
+                    peer.setsockopt(socket.SOL_SOCKET, socket.SO_LINGER, struct.pack("ii", 1, 0))
+                self.assertTrue(heard.wait(programs.LONG))
+                self.assertEqual(heard_of.getvalue(), "")
+                with unittest.mock.patch("escrow.metrics.text_of", side_effect=ValueError("of ours")):
+                    heard.clear()
+                    with socket.create_connection(("127.0.0.1", server.port)) as peer:
+                        peer.send(b"GET /metrics HTTP/1.0\r\n\r\n")
+                        self.assertEqual(peer.recv(1), b"")
+                    self.assertTrue(heard.wait(programs.LONG))
+                self.assertIn("ValueError: of ours", heard_of.getvalue())
+            finally:
+                server.close()
+
+    def test_a_server_without_descriptors_rests(self) -> None:
+        tried: list[float] = []
+
+        def none_is_free(server: object) -> tuple[socket.socket, object]:
+            tried.append(time.monotonic())
+            raise OSError(errno.EMFILE, os.strerror(errno.EMFILE))
+
+        server = serve([told()])
+        try:
+            with unittest.mock.patch("socketserver.TCPServer.get_request", none_is_free):
+                with socket.create_connection(("127.0.0.1", server.port)) as peer:
+                    programs.wait_until(lambda: len(tried) >= 3)
+                self.assertGreater(tried[2] - tried[0], 0.9)
+            with urllib.request.urlopen(f"http://127.0.0.1:{server.port}/metrics", timeout=60) as answer:
+                self.assertEqual(answer.status, 200)
         finally:
             server.close()
 

@@ -17,10 +17,11 @@ from ..numbers import keep_of
 from ..program import find_program
 from ..refused import joined, wanted_mark
 from ..room import has_room
+from ..scarce import SCARCE
 from ..schema import Identity, identity
 from ..site import lock_folder
 from ..streams import refuse_streams
-from ..supervisor import FULL, HOPELESS, LOOK, SCARCE, Backoff, hopeless
+from ..supervisor import FULL, HOPELESS, LOOK, Backoff, hopeless
 from ..values import Mark
 from .listening import Place, passed
 from .run import Limits, Run

@@ -24,8 +24,9 @@ from typing import NamedTuple
 
 from ..errors import Faulty
 from ..records import Records
+from ..scarce import SCARCE
 from ..schema import Identity
-from ..supervisor import SCARCE, Ready, ready_line
+from ..supervisor import Ready, ready_line
 from ..values import Mark
 from .connection import Connection, Gone
 from .plan import Part, Planner
