@@ -4,7 +4,7 @@ use folder_faults::{Fault, Missing};
 use std::fs;
 use std::io::{self, ErrorKind};
 use std::path::Path;
-use world_folders::{Paths, read_fault};
+use world_folders::{PathFault, Paths, read_fault};
 
 // The path of the file to which a link leads, or None where it is none, or leads nowhere.
 fn target_of(rt: &HostRuntime, path: &str) -> io::Result<Option<String>> {
@@ -24,7 +24,8 @@ pub(crate) fn paths_of(rt: &HostRuntime, folder: &str) -> Result<Paths, Fault> {
         Ok(None) => {}
         Err(error) if error.kind() == ErrorKind::NotFound => {}
         Err(error) => {
-            return Err(read_fault(rt.alloc(), paths.log.as_str(), error, Missing::Log));
+            let why = PathFault::of(error);
+            return Err(read_fault(rt.alloc(), paths.log.as_str(), why, Missing::Log));
         }
     }
     Ok(paths)

@@ -9,14 +9,13 @@ ghost use Rattle.folder_archives.specs.Steps.{AreTotalsOf, IsLastPart, IsNextPar
 
 use crate::beginning::{Beginning, beginning_of, part_path};
 use crate::fault::{PartWhy, VerifyFault, held_fault, joint_fault, part_fault};
-use folder_faults::{Fault, Missing, Why, failed, refused};
+use folder_faults::{Fault, Missing, Why, refused};
 use held_logs::{HeldLog, count_held, read_held, replay_held, stand_held};
 use log_archives::check_joint;
 use log_replay::LogReplayed;
 use site_folder::Identity;
 use std::alloc::{AllocError, Global};
-use std::io::ErrorKind;
-use world_folders::{Paths, ReadsFiles, held_in, read_file};
+use world_folders::{PathFault, Paths, ReadsFiles, held_in, read_fault, read_file};
 
 /// How much a log has in all, what is gone included. A number above 2^64 - 1 is told as that.
 #[derive(Clone, Copy, Debug, Drop, PartialEq, Eq)]
@@ -69,10 +68,8 @@ fn read_part<R: ReadsFiles>(files: &R, alloc: Global, path: &str) -> Result<Vec<
 {
     match files.read(path) {
         Ok(bytes) => Ok(bytes),
-        Err(error) if error.kind() == ErrorKind::NotFound => {
-            Err(part_fault(alloc, path, PartWhy::Missing))
-        }
-        Err(error) => Err(VerifyFault::Log(failed(alloc, path, error))),
+        Err(PathFault::NotThere) => Err(part_fault(alloc, path, PartWhy::Missing)),
+        Err(why) => Err(VerifyFault::Log(read_fault(alloc, path, why, Missing::Log))),
     }
 }
 

@@ -1,5 +1,13 @@
 //! Why a task ends before it is done, in words that name the file and say what to do.
 
+ghost use Rattle.std.specs.Prelude.{◌≡◌, codes, None, Some, String};
+ghost use Rattle.std.specs.Global.{Global};
+ghost use Rattle.std.specs.IoError.{error_kind};
+ghost use Rattle.folder_faults.specs.declared.fault.Fault.TheVariants.{NoMemory};
+ghost use Rattle.file_medium.specs.declared.host.FileFault.{FileFault};
+ghost use Rattle.file_medium.specs.declared.memory_file.FileCall.TheVariants.{Sync};
+ghost use Rattle.folder_faults.specs.Faults.{IsAsked, IsDevice, IsOf, IsRefused, TellsCall, TellsNotClosed, call_word, status_of, why_missing};
+
 use field_bounds::SchemaFault;
 use file_medium::{FileCall, FileFault};
 use std::alloc::{AllocError, AllocFailed, Global};
@@ -97,6 +105,8 @@ pub enum Missing {
 }
 
 impl From<Missing> for Why {
+    ghost from_gives = { λ file why. why ≡ why_missing file };
+
     fn from(file: Missing) -> Why {
         match file {
             Missing::Site => Why::NoSite,
@@ -160,12 +170,16 @@ pub enum Fault {
 }
 
 impl From<AllocError> for Fault {
+    ghost from_gives = { λ _ fault. fault ≡ NoMemory };
+
     fn from(_refused: AllocError) -> Fault {
         Fault::NoMemory
     }
 }
 
 impl<T: Drop> From<AllocFailed<T>> for Fault {
+    ghost from_gives = { λ _ fault. fault ≡ NoMemory };
+
     fn from(_refused: AllocFailed<T>) -> Fault {
         Fault::NoMemory
     }
@@ -173,7 +187,9 @@ impl<T: Drop> From<AllocFailed<T>> for Fault {
 
 impl Fault {
     /// The status with which the program ends.
-    pub fn status(&self) -> u8 {
+    pub fn status(&self) -> u8
+        ensures { result ≡ status_of self.now }
+    {
         match self {
             Fault::Read | Fault::Write | Fault::TooLong => 1,
             Fault::Unread(..) | Fault::Asked(..) | Fault::NoFolder(_) | Fault::NoWorldName => 2,
@@ -207,7 +223,9 @@ pub fn header_words(fault: SchemaFault) -> &'static str {
 }
 
 /// The fault that the command line names what is refused.
-pub fn asked(alloc: Global, path: &str, why: Why) -> Fault {
+pub fn asked(alloc: Global, path: &str, why: Why) -> Fault
+    ensures { IsAsked path.now why result }
+{
     match String::from_str(alloc, path) {
         Ok(path) => Fault::Asked(path, why),
         Err(_) => Fault::NoMemory,
@@ -215,7 +233,9 @@ pub fn asked(alloc: Global, path: &str, why: Why) -> Fault {
 }
 
 /// The fault that what lies at a path is refused.
-pub fn refused(alloc: Global, path: &str, why: Why) -> Fault {
+pub fn refused(alloc: Global, path: &str, why: Why) -> Fault
+    ensures { IsRefused path.now why result }
+{
     match String::from_str(alloc, path) {
         Ok(path) => Fault::Refused(path, why),
         Err(_) => Fault::NoMemory,
@@ -223,7 +243,10 @@ pub fn refused(alloc: Global, path: &str, why: Why) -> Fault {
 }
 
 /// The fault that a call of the system failed at a path.
-pub fn failed(alloc: Global, path: &str, error: io::Error) -> Fault {
+pub fn failed(alloc: Global, path: &str, error: io::Error) -> Fault
+    ensures failed { IsOf (λ name. Fault.System name error) path.now result }
+    ensures memory { error_kind error ≡ ErrorKind.OutOfMemory → result ≡ NoMemory }
+{
     if error.kind() == ErrorKind::OutOfMemory {
         return Fault::NoMemory;
     }
@@ -234,7 +257,10 @@ pub fn failed(alloc: Global, path: &str, error: io::Error) -> Fault {
 }
 
 /// The fault that the file that the command line names can't be read.
-pub fn unread(alloc: Global, path: &str, error: io::Error) -> Fault {
+pub fn unread(alloc: Global, path: &str, error: io::Error) -> Fault
+    ensures unread { IsOf (λ name. Fault.Unread name error) path.now result }
+    ensures memory { error_kind error ≡ ErrorKind.OutOfMemory → result ≡ NoMemory }
+{
     if error.kind() == ErrorKind::OutOfMemory {
         return Fault::NoMemory;
     }
@@ -245,7 +271,9 @@ pub fn unread(alloc: Global, path: &str, error: io::Error) -> Fault {
 }
 
 /// The fault that a call failed at a file whose answers wait for it.
-pub fn device_fault(alloc: Global, path: &str) -> Fault {
+pub fn device_fault(alloc: Global, path: &str) -> Fault
+    ensures { IsDevice path.now result }
+{
     match String::from_str(alloc, path) {
         Ok(path) => Fault::Device(path),
         Err(_) => Fault::NoMemory,
@@ -253,7 +281,9 @@ pub fn device_fault(alloc: Global, path: &str) -> Fault {
 }
 
 // What a call of a file is called.
-fn call_word(call: FileCall) -> &'static str {
+fn call_word(call: FileCall) -> &'static str
+    ensures { result.now ≡ call_word call }
+{
     match call {
         FileCall::Read => "read",
         FileCall::Write => "write",
@@ -271,7 +301,9 @@ enum Remedy {
     Disk,
 }
 
-fn remedy_of(call: FileCall, kind: ErrorKind) -> Remedy {
+fn remedy_of(call: FileCall, kind: ErrorKind) -> Remedy
+    ensures sync { call ≡ Sync → result ≡ Remedy.NewStart }
+{
     match (call, kind) {
         (FileCall::Sync, _) => Remedy::NewStart,
         (_, ErrorKind::StorageFull | ErrorKind::QuotaExceeded | ErrorKind::FileTooLarge) => {
@@ -282,7 +314,10 @@ fn remedy_of(call: FileCall, kind: ErrorKind) -> Remedy {
 }
 
 // The remedy of a site that is served.
-fn serve_remedy(remedy: Remedy) -> &'static str {
+fn serve_remedy(remedy: Remedy) -> &'static str
+    ensures anew { remedy ≡ Remedy.NewStart
+        → result.now ≡ codes "start the machine anew before it is served again" }
+{
     match remedy {
         Remedy::NewStart => "start the machine anew before it is served again",
         Remedy::Room => "make room, and serve it again",
@@ -291,7 +326,9 @@ fn serve_remedy(remedy: Remedy) -> &'static str {
 }
 
 // The remedy of a folder that isn't closed.
-fn close_remedy(remedy: Remedy) -> &'static str {
+fn close_remedy(remedy: Remedy) -> &'static str
+    ensures anew { remedy ≡ Remedy.NewStart → result.now ≡ codes "start the machine anew" }
+{
     match remedy {
         Remedy::NewStart => "start the machine anew",
         Remedy::Room => "make room",
@@ -299,8 +336,13 @@ fn close_remedy(remedy: Remedy) -> &'static str {
     }
 }
 
-/// A device fault with the call that failed, where that is known.
-pub fn with_call(fault: Fault, failed: Option<FileFault>) -> Fault {
+/// A device fault with the call that failed, where that is known. Any other fault stays as it is.
+pub fn with_call(fault: Fault, failed: Option<FileFault>) -> Fault
+    ensures call { (path : String Global) (told : FileFault) → fault ≡ Fault.Device path
+        → failed ≡ Some told → TellsCall path told result }
+    ensures unknown { failed ≡ None → result ≡ fault }
+    ensures other { ((path : String Global) → fault ≡ Fault.Device path → ⊥) → result ≡ fault }
+{
     match (fault, failed) {
         (Fault::Device(path), Some(FileFault { call, error })) => {
             let remedy = serve_remedy(remedy_of(call, error.kind()));
@@ -311,7 +353,11 @@ pub fn with_call(fault: Fault, failed: Option<FileFault>) -> Fault {
 }
 
 /// The same of a folder that is to be closed, once the header of the new world was written.
-pub fn not_closed(fault: Fault, failed: Option<FileFault>) -> Fault {
+pub fn not_closed(fault: Fault, failed: Option<FileFault>) -> Fault
+    ensures call { (path : String Global) (told : FileFault) → fault ≡ Fault.Device path
+        → failed ≡ Some told → TellsNotClosed path told result }
+    ensures status { status_of result ≡ status_of fault }
+{
     match (fault, failed) {
         (Fault::Device(path), Some(FileFault { call, error })) => {
             let remedy = close_remedy(remedy_of(call, error.kind()));

@@ -1,5 +1,5 @@
 -- The first line that is written, and the serving behind it.
-use Rattle.std.proofs.Common.{◌≡◌, ◌≢◌, ℕ, Bool, List, ◌++◌, length, drop, sym, ap, ◌∙◌, subst, inr, Option, None, Some}
+use Rattle.std.proofs.Common.{◌≡◌, ◌≢◌, ℕ, Bool, List, ◌++◌, length, drop, sym, ap, ◌∙◌, subst, inl, inr, Option, None, Some}
 use Rattle.std.specs.Prelude.{IfSome, IfNone}
 use Rattle.std.specs.List.{flat_map}
 use Rattle.std.specs.Io.KnownBytes.{Appends}
@@ -16,6 +16,11 @@ use Rattle.site_service.specs.Answers.{held_in}
 use Rattle.site_service.specs.Service.{ServiceValue, IsSettled}
 use Rattle.site_folder.specs.Identity.{IdentityValue, log_name}
 use Rattle.world_folders.specs.Logs.{HaveCome}
+use Rattle.folder_faults.specs.declared.fault.Fault.{Fault}
+use Rattle.folder_faults.specs.declared.fault.Why.TheVariants.{Plain}
+use Rattle.folder_faults.specs.Faults.{IsRefused}
+use Rattle.world_folders.specs.declared.reading.PathFault.{PathFault}
+use Rattle.folder_serving.specs.Refusing.{IsPlainFault}
 use Rattle.world_folders.specs.Reading.{IsRead}
 use Rattle.folder_serving.specs.Serving.{IsNoPlain, version_of, ready_text, IsReadyLine, TellsReady, StopsAtReady}
 
@@ -39,6 +44,20 @@ no_plain holds path piece identity bytes name view prefix read is named view_is 
   read = subst (λ (p : List ℕ). IsRead holds p bytes) is read;
   other = λ rest same. none rest (view_is ∙ same ∙ ap (λ (n : List ℕ). n ++ rest) (sym (prefix_is ∙ named)));
 }
+
+-- the file is a log of version 1
+pub plain : (fails : List ℕ → PathFault → Type 0) (holds : List ℕ → List ℕ → Type 0) (path piece at : List ℕ) (identity : IdentityValue)
+    (bytes name view prefix rest : List ℕ) (fault : Fault) → IsRead holds piece bytes → piece ≡ path → name ≡ log_name identity
+    → view ≡ bytes → prefix ≡ name → view ≡ prefix ++ rest → at ≡ path → IsRefused at Plain fault
+    → IsPlainFault fails holds path identity fault
+plain fails holds path piece at identity bytes name view prefix rest fault read is named view_is prefix_is begins place told =
+    inr (inl (record {
+      bytes = bytes;
+      read = subst (λ (p : List ℕ). IsRead holds p bytes) is read;
+      rest = rest;
+      is = sym view_is ∙ begins ∙ ap (λ (n : List ℕ). n ++ rest) (prefix_is ∙ named);
+      told = subst (λ (p : List ℕ). IsRefused p Plain fault) place told;
+    }))
 
 -- the line that tells it
 pub ready_line : (shortens : Bool) (service : ServiceValue) (first again : Option Gone) (records : List ℕ) (stand : Stand) (version : ℕ)

@@ -1,11 +1,12 @@
 //! A site served over the log of its folder: from the first line of all to the end of the input.
 
-ghost use Rattle.std.specs.Prelude.{◌≡◌, ◌≢◌, ◌++◌, ℕ, List, IfOk, OnOk, OnErr, MatchOption, None, Some, string_bytes};
+ghost use Rattle.std.specs.Prelude.{◌≡◌, ◌≢◌, ◌++◌, ℕ, List, IfOk, IfErr, OnOk, OnErr, MatchOption, None, Some, string_bytes};
 ghost use Rattle.script_input.specs.Streams.{GaveNothing};
 ghost use Rattle.site_service.specs.Behind.{IsOpenedBehind};
 ghost use Rattle.site_service.specs.Opening.{IsOpened, KeepsLines, SparesLines};
 ghost use Rattle.site_service.specs.Service.{IsSettled};
 ghost use Rattle.site_service.specs.Traces.{trace_of, HasTold};
+ghost use Rattle.folder_serving.specs.Refusing.{IsAgeFault, IsPlainFault, IsUnopened, TellsUnopened};
 ghost use Rattle.folder_serving.specs.Serving.{IsNoOlder, IsNoPlain, IsOpenedOver, IsReadyLine, ServesReady, StopsAtReady, StopsReady, TellsReady, ready_text, version_of};
 
 use file_medium::LogFile;
@@ -32,6 +33,8 @@ pub fn check_age<R: ReadsFiles>(
 ) -> Result<(), Fault>
     ensures newest { OnOk result (IsNoOlder (R.holds files.now) (string_bytes paths.now.log)
         identity.now seen) }
+    ensures fault { IfErr result (IsAgeFault (R.fails files.now) (R.holds files.now)
+        (string_bytes paths.now.log) identity.now seen) }
 {
     let stand = read_stand(files, alloc, paths, identity)?;
     if stand.is_before(seen) {
@@ -60,6 +63,8 @@ pub fn refuse_plain<R: ReadsFiles>(
 ) -> Result<(), Fault>
     ensures other { OnOk result (IsNoPlain (R.holds files.now) (string_bytes paths.now.log)
         identity.now) }
+    ensures fault { IfErr result (IsPlainFault (R.fails files.now) (R.holds files.now)
+        (string_bytes paths.now.log) identity.now) }
 {
     let name = log_name(alloc, identity)?;
     let bytes = read_file(files, alloc, paths.log.as_str(), Missing::Log)?;
@@ -70,7 +75,9 @@ pub fn refuse_plain<R: ReadsFiles>(
 }
 
 // Why the site isn't opened over its log, as a fault at its path.
-fn open_fault(alloc: Global, paths: &Paths, fault: OpenFault) -> Fault {
+fn open_fault(alloc: Global, paths: &Paths, fault: OpenFault) -> Fault
+    ensures told { TellsUnopened (string_bytes paths.now.log) fault result }
+{
     match fault {
         OpenFault::Line(line) => refused(alloc, paths.log.as_str(), Why::BadRecord(line)),
         OpenFault::Device => device_fault(alloc, paths.log.as_str()),
@@ -94,6 +101,8 @@ fn open_whole<F: LogFile + Drop, T: LogFile>(
     ensures told { IfOk result (λ service. HasTold
         (trace_of (T.bytes trace.old) (T.safe trace.old))
         (trace_of (T.bytes trace.new) (T.safe trace.new)) service.waiting) }
+    ensures fault { IfErr result (IsUnopened identity.now.schema identity.now.number None
+        (F.bytes log) (string_bytes paths.now.log)) }
     ensures uncut { T.least trace.new ≡ T.least trace.old }
 {
     let schema = identity.schema().copy()?;
@@ -120,6 +129,8 @@ fn open_behind<F: LogFile + Drop, T: LogFile>(
     ensures told { IfOk result (λ service. HasTold
         (trace_of (T.bytes trace.old) (T.safe trace.old))
         (trace_of (T.bytes trace.new) (T.safe trace.new)) service.waiting) }
+    ensures fault { IfErr result (IsUnopened identity.now.schema identity.now.number (Some told)
+        (F.bytes log) (string_bytes paths.now.log)) }
     ensures uncut { T.least trace.new ≡ T.least trace.old }
 {
     let schema = identity.schema().copy()?;
@@ -149,6 +160,8 @@ pub fn open_service<F: LogFile + Drop, T: LogFile>(
     ensures told { IfOk result (λ service. HasTold
         (trace_of (T.bytes trace.old) (T.safe trace.old))
         (trace_of (T.bytes trace.new) (T.safe trace.new)) service.waiting) }
+    ensures fault { IfErr result (IsUnopened identity.now.schema identity.now.number gone
+        (F.bytes log) (string_bytes paths.now.log)) }
     ensures uncut { T.least trace.new ≡ T.least trace.old }
 {
     match gone {

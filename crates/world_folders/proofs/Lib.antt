@@ -1,4 +1,5 @@
 mod Pushed
 mod FolderLemmas
 mod ReadLogs
+mod MarkFaults
 mod Gathered

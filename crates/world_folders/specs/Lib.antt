@@ -1,4 +1,5 @@
 pub mod Reading
+pub mod Faults
 pub mod Folders
 pub mod Logs
 pub mod Lost

@@ -7,10 +7,25 @@ use Rattle.log_replay.specs.declared.standing.Standing.{Standing}
 use Rattle.world_logs.specs.declared.field_state.FieldRange.{FieldRange}
 use Rattle.world_logs.specs.Lost.{known_log, AreRanges}
 use Rattle.world_logs.specs.LostFaults.{KnownWithin}
+use Rattle.folder_faults.specs.declared.fault.Fault.{Fault}
+use Rattle.folder_faults.specs.declared.fault.Fault.TheVariants.{NoMemory}
+use Rattle.folder_faults.specs.declared.fault.Missing.TheVariants.{Log}
+use Rattle.world_folders.specs.declared.reading.PathFault.{PathFault}
 use Rattle.world_folders.specs.declared.worlds.SiteFolder.{SiteFolder}
+use Rattle.world_folders.specs.Faults.{IsUnread}
 use Rattle.world_folders.specs.Reading.{IsSeen}
 use Rattle.world_folders.specs.Folders.{IsFolderOf, HasNoFolder}
 use Rattle.world_folders.specs.Logs.{StandsAsRead, BreaksAsRead, LogText, IsLogRead, AreRecordsOf}
+
+-- The folder of the site was named, the system didn't tell whether a log is in it, and the fault tells why.
+pub record IsUnseen (fails : List ℕ → PathFault → Type 0) (folders : List SiteFolder) (s : ℕ) (fault : Fault) : Type 0 where
+  pub folder : SiteFolder
+  pub own : IsFolderOf folders s folder
+  pub unread : IsUnread fails (string_bytes folder.paths.log) Log fault
+
+-- Of a site of the schema it isn't known whether its log is lost, or memory was wanting.
+abbrev pub IsLostFault : (List ℕ → PathFault → Type 0) → List SiteFolder → SchemaValue → Fault → Type 0
+IsLostFault fails folders schema fault = ((s : ℕ) × (s < schema.sites) × IsUnseen fails folders s fault) ⊎ (fault ≡ NoMemory)
 
 -- The folder of the site was named, and it was seen whether a log is in it.
 pub record SeesLog (stands : List ℕ → Bool → Type 0) (folders : List SiteFolder) (s : ℕ) (there : Bool) : Type 0 where

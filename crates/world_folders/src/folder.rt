@@ -1,15 +1,15 @@
 //! A site's folder: where its files lie, and what they hold.
 
-ghost use Rattle.std.specs.Prelude.{◌≡◌, IfOk, string_bytes};
+ghost use Rattle.std.specs.Prelude.{◌≡◌, IfOk, IfErr, string_bytes};
 ghost use Rattle.site_folder.specs.Identity.{identity_text};
+ghost use Rattle.world_folders.specs.Faults.{IsNoSite, IsUnread, TellsNoIdentity, TellsUnread};
 ghost use Rattle.world_folders.specs.Folders.{ArePathsOf, path_in};
 ghost use Rattle.world_folders.specs.Reading.{IsRead};
 
-use crate::reading::ReadsFiles;
+use crate::reading::{PathFault, ReadsFiles};
 use folder_faults::{Fault, Missing, Why, failed, header_words, refused};
 use site_folder::{Identity, IdentityFault, read_identity};
 use std::alloc::{AllocError, Global};
-use std::io::{self, ErrorKind};
 
 /// The paths of a folder and of its files.
 #[derive(Drop)]
@@ -56,12 +56,15 @@ impl Paths {
     }
 }
 
-/// Why a file of a folder isn't read: it isn't there, what is named is no folder, or the system can't.
-pub fn read_fault(alloc: Global, path: &str, error: io::Error, missing: Missing) -> Fault {
-    match error.kind() {
-        ErrorKind::NotFound => refused(alloc, path, Why::from(missing)),
-        ErrorKind::NotADirectory => refused(alloc, path, Why::NoFolder),
-        _ => failed(alloc, path, error),
+/// The fault that a file of a folder isn't read: it isn't there, what is named is no folder, or the
+/// system can't.
+pub fn read_fault(alloc: Global, path: &str, why: PathFault, missing: Missing) -> Fault
+    ensures told { TellsUnread path.now missing why result }
+{
+    match why {
+        PathFault::NotThere => refused(alloc, path, Why::from(missing)),
+        PathFault::NoFolder => refused(alloc, path, Why::NoFolder),
+        PathFault::Failed(error) => failed(alloc, path, error),
     }
 }
 
@@ -74,23 +77,28 @@ pub fn read_file<R: ReadsFiles>(
     missing: Missing,
 ) -> Result<Vec<u8>, Fault>
     ensures read { IfOk result (λ bytes. IsRead (R.holds files.now) path.now bytes.items) }
+    ensures unread { IfErr result (IsUnread (R.fails files.now) path.now missing) }
 {
     match files.read(path) {
         Ok(bytes) => Ok(bytes),
-        Err(error) => Err(read_fault(alloc, path, error, missing)),
+        Err(why) => Err(read_fault(alloc, path, why, missing)),
     }
 }
 
-// Why the file of an identity is refused, or None at want of memory.
-fn why_refused(fault: IdentityFault) -> Option<Why> {
+// The fault that a file is that of no identity.
+fn identity_fault(alloc: Global, path: &str, fault: IdentityFault) -> Fault
+    ensures told { TellsNoIdentity path.now fault result }
+{
     match fault {
-        IdentityFault::Version => Some(Why::OtherVersion),
-        IdentityFault::NoIdentity | IdentityFault::Name => Some(Why::Damaged),
-        IdentityFault::World => Some(Why::HeaderChanged),
-        IdentityFault::Lines => Some(Why::ManyLines),
-        IdentityFault::Header(fault) => Some(Why::Header(fault, header_words(fault))),
-        IdentityFault::Number => Some(Why::OtherNumber),
-        IdentityFault::NoMemory => None,
+        IdentityFault::Version => refused(alloc, path, Why::OtherVersion),
+        IdentityFault::NoIdentity | IdentityFault::Name => refused(alloc, path, Why::Damaged),
+        IdentityFault::World => refused(alloc, path, Why::HeaderChanged),
+        IdentityFault::Lines => refused(alloc, path, Why::ManyLines),
+        IdentityFault::Header(fault) => {
+            refused(alloc, path, Why::Header(fault, header_words(fault)))
+        }
+        IdentityFault::Number => refused(alloc, path, Why::OtherNumber),
+        IdentityFault::NoMemory => Fault::NoMemory,
     }
 }
 
@@ -99,13 +107,13 @@ fn why_refused(fault: IdentityFault) -> Option<Why> {
 pub fn read_site<R: ReadsFiles>(files: &R, alloc: Global, paths: &Paths) -> Result<Identity, Fault>
     ensures read { IfOk result (λ identity. IsRead (R.holds files.now)
         (string_bytes paths.now.site) (identity_text identity)) }
+    ensures none { IfErr result (IsNoSite (R.fails files.now) (R.holds files.now)
+        (string_bytes paths.now.site)) }
 {
-    let text = read_file(files, alloc, paths.site.as_str(), Missing::Site)?;
+    let path = paths.site.as_str();
+    let text = read_file(files, alloc, path, Missing::Site)?;
     match read_identity(alloc, text.as_slice()) {
         Ok(identity) => Ok(identity),
-        Err(fault) => match why_refused(fault) {
-            Some(why) => Err(refused(alloc, paths.site.as_str(), why)),
-            None => Err(Fault::NoMemory),
-        },
+        Err(fault) => Err(identity_fault(alloc, path, fault)),
     }
 }

@@ -1,8 +1,11 @@
 //! The log of a site's folder, of any version: what its file holds, and what that comes to.
 
-ghost use Rattle.std.specs.Prelude.{◌<◌, ◌↔◌, IfOk, IsTrue, string_bytes};
+ghost use Rattle.std.specs.Prelude.{◌<◌, ◌↔◌, IfOk, IfErr, IsTrue, string_bytes};
 ghost use Rattle.folder_logs.specs.Files.{bytes_of};
 ghost use Rattle.held_logs.specs.Held.{Holds};
+ghost use Rattle.world_folders.specs.Faults.{IsLogFault, IsNoLog};
+ghost use Rattle.folder_faults.specs.Faults.{IsRefused};
+ghost use Rattle.folder_faults.specs.declared.fault.Why.TheVariants.{BadRecord, DamagedBatch};
 ghost use Rattle.world_folders.specs.Logs.{CountsLog, IsStandRead, LacksBase, ReplaysLog};
 
 use crate::folder::{Paths, read_file};
@@ -19,13 +22,17 @@ use std::alloc::{AllocError, Global};
 
 /// The fault that this line of the records that the log holds is no record of the site, the first one
 /// being 1.
-pub(crate) fn bad_record(alloc: Global, paths: &Paths, line: u64) -> Fault {
+pub(crate) fn bad_record(alloc: Global, paths: &Paths, line: u64) -> Fault
+    ensures told { IsRefused (string_bytes paths.now.log) (BadRecord line) result }
+{
     refused(alloc, paths.log.as_str(), Why::BadRecord(line))
 }
 
 /// The fault that a batch of the log is damaged, which begins at this line of its file, the first one
 /// being 1.
-pub fn damaged_line(alloc: Global, paths: &Paths, line: u64) -> Fault {
+pub fn damaged_line(alloc: Global, paths: &Paths, line: u64) -> Fault
+    ensures told { IsRefused (string_bytes paths.now.log) (DamagedBatch line) result }
+{
     refused(alloc, paths.log.as_str(), Why::DamagedBatch(line))
 }
 
@@ -40,6 +47,7 @@ pub fn held_in<'a>(
 ) -> Result<HeldLog<'a>, Fault>
     ensures held { IfOk result (λ held. Holds identity.now bytes.now held.gone
         (bytes_of held.records)) }
+    ensures none { IfErr result (IsNoLog (string_bytes paths.now.log) identity.now bytes.now) }
 {
     match read_held(alloc, identity, bytes) {
         Ok(held) => Ok(held),
@@ -119,6 +127,8 @@ pub fn read_stand<R: ReadsFiles>(
 ) -> Result<Stand, Fault>
     ensures stand { IfOk result (IsStandRead (R.holds files.now) (string_bytes paths.now.log)
         identity.now) }
+    ensures fault { IfErr result (IsLogFault (R.fails files.now) (R.holds files.now)
+        (string_bytes paths.now.log) identity.now) }
 {
     let bytes = read_file(files, alloc, paths.log.as_str(), Missing::Log)?;
     let held = held_in(alloc, paths, identity, bytes.as_slice())?;

@@ -20,7 +20,7 @@ pub use folder::{Paths, read_fault, read_file, read_site};
 pub use folder_log::{count_records, damaged_line, held_in, read_stand};
 pub use marks::check_mark;
 pub use progress::tell_reading;
-pub use reading::ReadsFiles;
+pub use reading::{PathFault, ReadsFiles};
 pub use settling::{lost_sites, ranges_of, settled_header};
 pub use showing::{Shown, read_records};
 pub use tells_fault::TellsFault;

@@ -1,15 +1,16 @@
 //! Which logs of a world are lost, and what a new world goes on with: where all logs end, or between
 //! which bounds where some are lost.
 
-ghost use Rattle.std.specs.Prelude.{◌≡◌, ◌<◌, IfOk, length, string_bytes};
-ghost use Rattle.world_folders.specs.Lost.{AreKnownOutcomes, AreLost, BoundsAsRead, IsKnownOutcome, KnownAsRead, TellsLost};
+ghost use Rattle.std.specs.Prelude.{◌≡◌, ◌<◌, IfOk, IfErr, length, string_bytes};
+ghost use Rattle.world_folders.specs.Lost.{AreKnownOutcomes, AreLost, BoundsAsRead, IsKnownOutcome, IsLostFault, IsUnseen, KnownAsRead, TellsLost};
 ghost use Rattle.world_folders.specs.Logs.{SettlesAsRead, WritesSettled};
 
 use crate::checking::{logs_fault, read_outcome, read_standings};
+use crate::folder::read_fault;
 use crate::reading::ReadsFiles;
 use crate::worlds::WorldFolders;
 use field_bounds::{Schema, SiteNo};
-use folder_faults::{Fault, failed};
+use folder_faults::{Fault, Missing};
 use log_replay::Standing;
 use std::alloc::Global;
 use world_logs::{
@@ -24,6 +25,7 @@ fn is_lost<R: ReadsFiles>(
     site: SiteNo,
 ) -> Result<bool, Fault>
     ensures told { IfOk result (TellsLost (R.stands files.now) world.now.folders.items site.0) }
+    ensures unseen { IfErr result (IsUnseen (R.fails files.now) world.now.folders.items site.0) }
 {
     let Some(folder) = world.folder(site) else {
         return Ok(true);
@@ -31,7 +33,7 @@ fn is_lost<R: ReadsFiles>(
     let path = folder.paths.log.as_str();
     match files.is_there(path) {
         Ok(is_there) => Ok(!is_there),
-        Err(error) => Err(failed(alloc, path, error)),
+        Err(why) => Err(read_fault(alloc, path, why, Missing::Log)),
     }
 }
 
@@ -44,6 +46,8 @@ pub fn lost_sites<R: ReadsFiles>(
 ) -> Result<Vec<SiteNo>, Fault>
     ensures lost { IfOk result (λ lost. AreLost (R.stands files.now) world.now.folders.items
         world.now.schema lost.items) }
+    ensures fault { IfErr result (IsLostFault (R.fails files.now) world.now.folders.items
+        world.now.schema) }
 {
     let mut lost = Vec::new(alloc);
     for number in 0..world.schema.sites() {

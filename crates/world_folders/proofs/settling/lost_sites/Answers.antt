@@ -1,4 +1,5 @@
-use Rattle.std.proofs.Common.{◌≡◌, ◌≤◌, ◌+◌, ℕ, true, false, ap, ◌∙◌, subst, refl, arith}
+use Rattle.std.proofs.Common.{◌≡◌, ◌<◌, ◌≤◌, ◌+◌, ℕ, true, false, ap, ◌∙◌, inl, subst, refl, arith}
+use Rattle.std.proofs.lemmas.Result.{err_from_is_err_and}
 use Rattle.field_bounds.specs.declared.id.SiteNo.{SiteNo}
 use Rattle.world_folders.specs.Lost.{TellsLost, RiseFrom}
 use Rattle.world_folders.proofs.FolderLemmas.{lost_more, others_more, others_past, rise_on, rise_more}
@@ -34,15 +35,20 @@ loop-number-preserved g c =
           })
     ]
 
-pub returns : goal.returns
-returns g c =
+pub returns-clause-lost : goal.returns-clause-lost
+returns-clause-lost g c =
     let end : c.loop-number.number ≡ c.args.world.now.schema.sites =
     omega (arith, c.loop-number.invariant.within, c.loop-number-test.false, c.sites-number-end.ensures.value) in
     record {
-      lost = record {
-        order = subst (λ (n : ℕ). RiseFrom 0 n c.loop-number.lost.items) end c.loop-number.invariant.order;
-        each = c.loop-number.invariant.each;
-        others = λ s less among. c.loop-number.invariant.others s
-            (omega (arith, less, c.loop-number-test.false, c.sites-number-end.ensures.value)) among;
-      };
+      order = subst (λ (n : ℕ). RiseFrom 0 n c.loop-number.lost.items) end c.loop-number.invariant.order;
+      each = c.loop-number.invariant.each;
+      others = λ s less among. c.loop-number.invariant.others s
+          (omega (arith, less, c.loop-number-test.false, c.sites-number-end.ensures.value)) among;
     }
+
+pub returns-in_err-is_lost-clause-fault : goal.returns-in_err-is_lost-clause-fault
+returns-in_err-is_lost-clause-fault g c =
+    let less : c.loop-number.number < c.args.world.now.schema.sites =
+    omega (arith, c.loop-number-test.true, c.sites-number-end.ensures.value) in
+    let told = err_from_is_err_and c.from_residual.result c.from_residual.ensures.1 in
+    rw told.1 (rw told.2 (inl (c.loop-number.number, less, c.in_err-is_lost.ensures.unseen)))

@@ -1,0 +1,5 @@
+use Rattle.std.proofs.Common.{refl, inr}
+use Rattle.folder_faults.proofs.fault.device_fault.Goals as goal
+
+pub returns-in-Ok : goal.returns-in-Ok
+returns-in-Ok c = inr (c.in-Ok.path, c.in-Ok.ensures.ok, refl)
