@@ -5,7 +5,16 @@ use Rattle.log_head.specs.declared.gone.Gone.{Gone}
 use Rattle.held_logs.specs.declared.fault.HeldFault.{HeldFault}
 use Rattle.held_logs.specs.declared.fault.HeldFault.TheVariants as no_log
 use Rattle.held_logs.specs.Held.{IsHeldFault}
-use Rattle.world_folders.specs.Logs.{AreOfLog}
+use Rattle.log_replay.specs.declared.log_bytes.LogReplayed.TheVariants as came
+use Rattle.folder_faults.specs.declared.fault.Fault.{Fault}
+use Rattle.folder_faults.specs.declared.fault.Fault.TheVariants.{TooLong}
+use Rattle.folder_faults.specs.declared.fault.Missing.TheVariants.{Log as MissingLog}
+use Rattle.folder_faults.specs.declared.fault.Why.TheVariants.{BadRecord}
+use Rattle.folder_faults.specs.Faults.{IsRefused, status_of}
+use Rattle.world_folders.specs.declared.reading.PathFault.{PathFault}
+use Rattle.world_folders.specs.declared.reading.PathFault.TheVariants.{NotThere}
+use Rattle.world_folders.specs.Faults.{IsLogFault, IsUnread}
+use Rattle.world_folders.specs.Logs.{AreOfLog, TellsHeld}
 use Rattle.world_folders.specs.Reading.{IsRead}
 use Rattle.log_archives.specs.declared.fault.JointFault.{JointFault}
 use Rattle.log_archives.specs.declared.fault.JointFault.TheVariants as apart
@@ -33,35 +42,62 @@ pub record DoesNotJoin (holds : List ℕ → List ℕ → Type 0) (identity : Id
 
 -- A part was asked for at the path, by the next one, which lies at the path `next`. The fault names a path and a reason: of the part that
 -- nothing lies there, that this is no log of the site, or that its lines are bad or end too early; or of the next one that its base or
--- its head doesn't go with the part. Whether nothing lies there only the system knows.
-abbrev pub TellsWhyNot : (List ℕ → List ℕ → Type 0) → IdentityValue → List ℕ → List ℕ → Gone → List ℕ → List ℕ → PartWhy → Type 0
-TellsWhyNot _ _ path _ _ _ at Missing = at ≡ path
-TellsWhyNot holds identity path _ _ _ at Other = (at ≡ path) × IsNoPart holds identity path no_log.Other
-TellsWhyNot holds identity path _ _ _ at Changed = (at ≡ path) × IsNoPart holds identity path no_log.Changed
-TellsWhyNot holds identity path _ _ _ at (Damaged line) = (at ≡ path) × IsNoPart holds identity path (no_log.Damaged line)
-TellsWhyNot holds identity path _ told held at (BadLine line) =
+-- its head doesn't go with the part. A part that isn't there fails to be read so.
+abbrev pub TellsWhyNot : (List ℕ → PathFault → Type 0) → (List ℕ → List ℕ → Type 0) → IdentityValue → List ℕ → List ℕ → Gone → List ℕ → List ℕ → PartWhy → Type 0
+TellsWhyNot fails _ _ path _ _ _ at Missing = (at ≡ path) × fails path NotThere
+TellsWhyNot _ holds identity path _ _ _ at Other = (at ≡ path) × IsNoPart holds identity path no_log.Other
+TellsWhyNot _ holds identity path _ _ _ at Changed = (at ≡ path) × IsNoPart holds identity path no_log.Changed
+TellsWhyNot _ holds identity path _ _ _ at (Damaged line) = (at ≡ path) × IsNoPart holds identity path (no_log.Damaged line)
+TellsWhyNot _ holds identity path _ told held at (BadLine line) =
     (at ≡ path)
     × (DoesNotJoin holds identity path told held (apart.BadLine line) ⊎ DoesNotJoin holds identity path told held (apart.BreaksRule line))
-TellsWhyNot holds identity path next told held at (Short of) =
+TellsWhyNot _ holds identity path next told held at (Short of) =
     (at ≡ path) × (string_bytes of ≡ next) × DoesNotJoin holds identity path told held apart.Short
-TellsWhyNot holds identity path next told held at (OtherBase of) =
+TellsWhyNot _ holds identity path next told held at (OtherBase of) =
     (at ≡ next) × (string_bytes of ≡ path) × DoesNotJoin holds identity path told held apart.OtherBase
-TellsWhyNot holds identity path next told held at (OtherBytes of) =
+TellsWhyNot _ holds identity path next told held at (OtherBytes of) =
     (at ≡ next) × (string_bytes of ≡ path) × DoesNotJoin holds identity path told held apart.OtherBytes
-TellsWhyNot holds identity path next told held at (OtherRecords of) =
+TellsWhyNot _ holds identity path next told held at (OtherRecords of) =
     (at ≡ next) × (string_bytes of ≡ path) × DoesNotJoin holds identity path told held apart.OtherRecords
-TellsWhyNot holds identity path next told held at (OtherHorizon of) =
+TellsWhyNot _ holds identity path next told held at (OtherHorizon of) =
     (at ≡ next) × (string_bytes of ≡ path) × DoesNotJoin holds identity path told held apart.OtherHorizon
 
 -- Parts were verified from one on up to the log, and of the part in front of it, which its head asks for, this is told at this path.
-pub record IsPartFault (holds : List ℕ → List ℕ → Type 0) (log : List ℕ) (identity : IdentityValue) (at : List ℕ) (why : PartWhy)
+pub record IsPartFault (fails : List ℕ → PathFault → Type 0) (holds : List ℕ → List ℕ → Type 0) (log : List ℕ) (identity : IdentityValue) (at : List ℕ) (why : PartWhy)
     : Type 0 where
   pub told : Gone
   pub held : List ℕ
   pub behind : AreVerified holds log identity (Some told) held
-  pub is : TellsWhyNot holds identity (part_path log told.bytes) (path_of log behind.parts) told held at why
+  pub is : TellsWhyNot fails holds identity (part_path log told.bytes) (path_of log behind.parts) told held at why
 
--- Why the log isn't verified. Of the log alone, of the system and of want of memory nothing is said.
-abbrev pub IsVerifyFault : (List ℕ → List ℕ → Type 0) → List ℕ → IdentityValue → VerifyFault → Type 0
-IsVerifyFault _ _ _ (Log _) = Unit {0}
-IsVerifyFault holds log identity (Part at why) = IsPartFault holds log identity (string_bytes at) why
+-- Parts were verified from one on up to the log, and the one in front of it, which its head asks for, wasn't read, as the fault tells.
+pub record IsPartUnread (fails : List ℕ → PathFault → Type 0) (holds : List ℕ → List ℕ → Type 0) (log : List ℕ) (identity : IdentityValue)
+    (fault : Fault) : Type 0 where
+  pub told : Gone
+  pub held : List ℕ
+  pub behind : AreVerified holds log identity (Some told) held
+  pub unread : IsUnread fails (part_path log told.bytes) MissingLog fault
+
+-- The log was read, and this line of the records that it holds is none of the site, or breaks a rule.
+pub record HasBadRecord (holds : List ℕ → List ℕ → Type 0) (log : List ℕ) (identity : IdentityValue) (fault : Fault) : Type 0 where
+  pub gone : Option Gone
+  pub records : List ℕ
+  pub of : AreOfLog holds log identity gone records
+  pub line : ℕ
+  pub bad : TellsHeld identity.schema identity.number.0 gone records (came.BadLine line)
+      ⊎ TellsHeld identity.schema identity.number.0 gone records (came.BreaksRule line)
+  pub told : IsRefused log (BadRecord line) fault
+
+-- Why the log isn't verified: of a part, or of the log itself; or a part can't be read, or there are more parts than can be counted.
+abbrev pub IsVerifyFault : (List ℕ → PathFault → Type 0) → (List ℕ → List ℕ → Type 0) → List ℕ → IdentityValue → VerifyFault → Type 0
+IsVerifyFault fails holds log identity (Log fault) =
+    IsLogFault fails holds log identity fault
+    ⊎ HasBadRecord holds log identity fault
+    ⊎ IsPartUnread fails holds log identity fault
+    ⊎ (fault ≡ TooLong)
+IsVerifyFault fails holds log identity (Part at why) = IsPartFault fails holds log identity (string_bytes at) why
+
+-- The status with which the program ends: that of a fault of the log; 3 where a part is refused.
+abbrev pub status_of_verify : VerifyFault → ℕ
+status_of_verify (Log fault) = status_of fault
+status_of_verify (Part at why) = 3

@@ -7,12 +7,20 @@ use Rattle.kept_records.specs.Logs.{HasNoLf, IsLog}
 use Rattle.kept_records.specs.Stands.{plain}
 use Rattle.kept_records.specs.Text.{text}
 use Rattle.site_folder.specs.Identity.{IdentityValue}
-use Rattle.folder_faults.specs.declared.fault.Fault.TheVariants.{NoMemory}
+use Rattle.log_replay.specs.declared.log_bytes.LogReplayed.TheVariants as came
+use Rattle.folder_faults.specs.declared.fault.Fault.{Fault}
+use Rattle.folder_faults.specs.declared.fault.Fault.TheVariants.{NoMemory, System}
+use Rattle.folder_faults.specs.declared.fault.Missing.TheVariants.{Log as MissingLog}
+use Rattle.folder_faults.specs.declared.fault.Why.TheVariants as why
+use Rattle.folder_faults.specs.Faults.{IsOf, IsRefused}
+use Rattle.world_folders.specs.declared.reading.PathFault.{PathFault}
+use Rattle.world_folders.specs.declared.reading.PathFault.TheVariants.{NotThere, NoFolder, Failed}
+use Rattle.world_folders.specs.Faults.{IsUnread}
 use Rattle.log_head.specs.declared.gone.Gone.{Gone}
 use Rattle.held_logs.specs.declared.fault.HeldFault.{HeldFault}
 use Rattle.held_logs.specs.declared.fault.HeldFault.TheVariants as no_log
 use Rattle.held_logs.specs.Counts.{told_number}
-use Rattle.world_folders.specs.Logs.{AreOfLog}
+use Rattle.world_folders.specs.Logs.{AreOfLog, TellsHeld}
 use Rattle.log_archives.specs.declared.fault.JointFault.{JointFault}
 use Rattle.log_archives.specs.declared.fault.JointFault.TheVariants as apart
 use Rattle.log_archives.specs.Heads.{bytes_told, records_told}
@@ -86,12 +94,20 @@ pub record IsPart (holds : List ℕ → List ℕ → Type 0) (identity : Identit
 
 -- The fault names this path and tells this; or memory is wanting.
 abbrev pub IsToldOf : List ℕ → PartWhy → VerifyFault → Type 0
-IsToldOf _ _ (Log _) = Unit {0}
+IsToldOf _ _ (Log fault) = fault ≡ NoMemory
 IsToldOf path why (Part at told) = (string_bytes at ≡ path) × (told ≡ why)
 
--- The fault tells that nothing lies at this path.
-abbrev pub TellsMissing : List ℕ → VerifyFault → Type 0
-TellsMissing path fault = IsToldOf path Missing fault
+-- The fault tells why the part at this path isn't read: it is missing, something is no folder, or how the system failed.
+abbrev pub TellsUnreadPart : List ℕ → PathFault → VerifyFault → Type 0
+TellsUnreadPart path NotThere fault = IsToldOf path Missing fault
+TellsUnreadPart path NoFolder fault = (told : Fault) × (fault ≡ Log told) × IsRefused path why.NoFolder told
+TellsUnreadPart path (Failed error) fault = (told : Fault) × (fault ≡ Log told) × IsOf (λ name. System name error) path told
+
+-- The part at this path wasn't read, and the fault tells why.
+pub record IsUnreadPart (fails : List ℕ → PathFault → Type 0) (path : List ℕ) (fault : VerifyFault) : Type 0 where
+  pub why : PathFault
+  pub failed : fails path why
+  pub told : TellsUnreadPart path why fault
 
 -- The fault tells of the file at this path why it is no log of the site.
 abbrev pub TellsHeldFault : List ℕ → HeldFault → VerifyFault → Type 0
@@ -115,7 +131,14 @@ TellsJointFault path next apart.OtherRecords fault = ByPath path (λ of. IsToldO
 TellsJointFault path next apart.OtherHorizon fault = ByPath path (λ of. IsToldOf next (OtherHorizon of) fault)
 
 -- What a fault tells of the part at a path that the next one asks for, of which the body knows how it begins.
-abbrev pub TellsPart : (List ℕ → List ℕ → Type 0) → IdentityValue → List ℕ → Beginning → VerifyFault → Type 0
-TellsPart _ _ _ _ (Log _) = Unit {0}
-TellsPart holds identity path next (Part at why) =
-    TellsWhyNot holds identity path (string_bytes next.path) next.told next.base.items (string_bytes at) why
+abbrev pub TellsPart : (List ℕ → PathFault → Type 0) → (List ℕ → List ℕ → Type 0) → IdentityValue → List ℕ → Beginning → VerifyFault → Type 0
+TellsPart fails _ _ path _ (Log fault) = IsUnread fails path MissingLog fault ⊎ (fault ≡ NoMemory)
+TellsPart fails holds identity path next (Part at why) =
+    TellsWhyNot fails holds identity path (string_bytes next.path) next.told next.base.items (string_bytes at) why
+
+-- The log itself is refused for a line of the records that it holds, or memory was wanting.
+abbrev pub IsLastFault : List ℕ → IdentityValue → Option Gone → List ℕ → Fault → Type 0
+IsLastFault log identity gone held fault =
+    ((line : ℕ) × (TellsHeld identity.schema identity.number.0 gone held (came.BadLine line)
+    ⊎ TellsHeld identity.schema identity.number.0 gone held (came.BreaksRule line)) × IsRefused log (why.BadRecord line) fault)
+    ⊎ (fault ≡ NoMemory)

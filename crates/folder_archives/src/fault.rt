@@ -3,6 +3,7 @@
 ghost use Rattle.std.specs.Prelude.{◌≡◌, IfOk, string_bytes};
 ghost use Rattle.folder_faults.specs.declared.fault.Fault.TheVariants.{NoMemory};
 ghost use Rattle.folder_archives.specs.declared.fault.VerifyFault.TheVariants.{Log};
+ghost use Rattle.folder_archives.specs.Faults.{status_of_verify};
 ghost use Rattle.folder_archives.specs.Steps.{IsToldOf, TellsHeldFault, TellsJointFault};
 
 use crate::beginning::Beginning;
@@ -67,7 +68,9 @@ impl From<Fault> for VerifyFault {
 
 impl VerifyFault {
     /// The status with which the program ends.
-    pub fn status(&self) -> u8 {
+    pub fn status(&self) -> u8
+        ensures { result ≡ status_of_verify self.now }
+    {
         match self {
             VerifyFault::Log(fault) => fault.status(),
             VerifyFault::Part(..) => 3,

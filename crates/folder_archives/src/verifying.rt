@@ -5,7 +5,7 @@ ghost use Rattle.folder_logs.specs.Files.{bytes_of};
 ghost use Rattle.world_folders.specs.Reading.{IsRead};
 ghost use Rattle.folder_archives.specs.Verified.{IsVerified};
 ghost use Rattle.folder_archives.specs.Faults.{IsVerifyFault};
-ghost use Rattle.folder_archives.specs.Steps.{AreTotalsOf, IsLastPart, IsNextPart, IsPart, TellsMissing, TellsPart};
+ghost use Rattle.folder_archives.specs.Steps.{AreTotalsOf, IsLastFault, IsLastPart, IsNextPart, IsPart, IsUnreadPart, TellsPart};
 
 use crate::beginning::{Beginning, beginning_of, part_path};
 use crate::fault::{PartWhy, VerifyFault, held_fault, joint_fault, part_fault};
@@ -45,6 +45,8 @@ fn verify_last(
     held: &HeldLog<'_>,
 ) -> Result<LogTotals, Fault>
     ensures last { IfOk result (IsLastPart identity.now held.now.gone (bytes_of held.now.records)) }
+    ensures fault { IfErr result (IsLastFault (string_bytes paths.now.log) identity.now held.now.gone
+        (bytes_of held.now.records)) }
 {
     let records = held.records.as_slice();
     match replay_held(
@@ -64,7 +66,7 @@ fn verify_last(
 // The bytes of the part at a path.
 fn read_part<R: ReadsFiles>(files: &R, alloc: Global, path: &str) -> Result<Vec<u8>, VerifyFault>
     ensures read { IfOk result (λ bytes. IsRead (R.holds files.now) path.now bytes.items) }
-    ensures fault { IfErr result (TellsMissing path.now) }
+    ensures fault { IfErr result (IsUnreadPart (R.fails files.now) path.now) }
 {
     match files.read(path) {
         Ok(bytes) => Ok(bytes),
@@ -83,7 +85,8 @@ fn verify_part<R: ReadsFiles>(
     next: &Beginning,
 ) -> Result<Option<Beginning>, VerifyFault>
     ensures part { IfOk result (IsPart (R.holds files.now) identity.now path.now next.now) }
-    ensures fault { IfErr result (TellsPart (R.holds files.now) identity.now path.now next.now) }
+    ensures fault { IfErr result (TellsPart (R.fails files.now) (R.holds files.now) identity.now
+        path.now next.now) }
 {
     let bytes = read_part(files, alloc, path)?;
     let part = match read_held(alloc, identity, bytes.as_slice()) {
@@ -112,8 +115,8 @@ fn verify_parts<R: ReadsFiles>(
         totals }
     ensures verified { IfOk result (IsVerified (R.holds files.now) (string_bytes paths.now.log)
         identity.now) }
-    ensures fault { IfErr result (IsVerifyFault (R.holds files.now) (string_bytes paths.now.log)
-        identity.now) }
+    ensures fault { IfErr result (IsVerifyFault (R.fails files.now) (R.holds files.now)
+        (string_bytes paths.now.log) identity.now) }
 {
     let mut next = last;
     'parts: for _part in 0..u64::MAX {
@@ -146,8 +149,8 @@ pub fn verify_folder<R: ReadsFiles>(
 ) -> Result<LogTotals, VerifyFault>
     ensures verified { IfOk result (IsVerified (R.holds files.now) (string_bytes paths.now.log)
         identity.now) }
-    ensures fault { IfErr result (IsVerifyFault (R.holds files.now) (string_bytes paths.now.log)
-        identity.now) }
+    ensures fault { IfErr result (IsVerifyFault (R.fails files.now) (R.holds files.now)
+        (string_bytes paths.now.log) identity.now) }
 {
     let bytes = read_file(files, alloc, paths.log.as_str(), Missing::Log)?;
     let held = held_in(alloc, paths, identity, bytes.as_slice())?;

@@ -7,7 +7,7 @@ use Rattle.folder_archives.proofs.verifying.verify_parts.Goals as goal
 pub returns-in_err-part-clause-fault : goal.returns-in_err-part-clause-fault
 returns-in_err-part-clause-fault g c =
     let told = err_from_is_err_and c.from_residual-in_err-part.result c.from_residual-in_err-part.ensures.1 in
-    rw told.1 (is_fault (g.R.ReadsFiles.holds c.args.files.now) (string_bytes c.args.paths.now.log) c.args.identity.now c.args.totals
+    rw told.1 (is_fault (g.R.ReadsFiles.fails c.args.files.now) (g.R.ReadsFiles.holds c.args.files.now) (string_bytes c.args.paths.now.log) c.args.identity.now c.args.totals
     c.parts.next c.as_str.result.now told.0 c.parts.invariant.behind (c.as_str.ensures.value ∙ c.in_ok-path.ensures.path)
     (rw told.2 c.in_err-part.ensures.fault))
 
