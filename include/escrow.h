@@ -86,7 +86,7 @@ enum { ESCROW_LOWER = 0, ESCROW_RAISE = 1 };
 
 /* A command in numbers. */
 typedef struct {
-    uint32_t kind;   /* ESCROW_BEGIN .. ESCROW_RESTART */
+    uint32_t kind;   /* one of the kinds above */
     uint32_t right;  /* ESCROW_LOWER or ESCROW_RAISE */
     uint32_t epoch;  /* of the transaction */
     uint32_t number; /* of the transaction, in its epoch */
@@ -119,7 +119,7 @@ enum {
 
 /* A reply in numbers. */
 typedef struct {
-    uint32_t kind; /* ESCROW_BEGUN .. ESCROW_REFUSED */
+    uint32_t kind; /* one of the kinds above */
     uint32_t code;
     uint64_t first;
     uint64_t second;

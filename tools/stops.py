@@ -33,7 +33,8 @@ CASES = {
               r"\b(?:Spared?|ESCROW_SPARED?)\b|[\"']spare[\"']|\d spare \d"),
     "c": Case("a command with neither (`share`)", "share",
               r"(?<!proofs\.)(?<!mod )(?<!Ledger, )\bShares?\b(?!<)|\"share\"|\d share |\" ?share |SITE share|\bshare (?:stock|#)",
-              r"\bShare \{|\b(?:SHARE|ESCROW_SHARES?)\b|def share\(|[\"'] ?share[\"' ]|\d share [a-z]|\} share |SITE share"),
+              r"\bShare \{|\b(?:SHARE|ESCROW_SHARES?)\b|def share\(|[\"'] ?share[\"' ]|\d share [a-z]|\} share |SITE share"
+              r"|`share[(`]|Interval\(.*\n.*\.share\("),
     "a": Case("an answer (`Shares`)", "share", r"(?<!proofs\.)(?<!mod )\bShares\b|-> share ", r"\b(?:ESCROW_SHARES|Shares)\b|-> share |[\"']share(?: N N)?[\"']"),
     "f": Case("a refusal (`NothingGiven`)", "nothing", r"\bNothingGiven\b|nothing given", r"(?i)nothing_?given|nothing given"),
     "l": Case("a limit (64 open)", "open", r"\b(?:max_open|MAX_OPEN)\b",
