@@ -16,7 +16,7 @@ use Rattle.folder_archives.specs.declared.fault.VerifyFault.{VerifyFault}
 use Rattle.folder_archives.specs.declared.fault.VerifyFault.TheVariants.{Log, Part}
 use Rattle.folder_archives.specs.declared.verifying.LogTotals.{LogTotals}
 use Rattle.folder_archives.specs.Verified.{part_path, path_of}
-use Rattle.folder_archives.specs.Faults.{DoesNotJoin, IsNoPart, IsVerifyFault, TellsWhyNot}
+use Rattle.folder_archives.specs.Faults.{DoesNotJoin, IsNoPart, IsUnreadThere, IsVerifyFault, TellsWhyNot}
 use Rattle.folder_archives.specs.Steps.{IsToldOf, IsFirstLineOf, IsLastFault, IsNextPart, IsUnreadPart, TellsHeldFault, TellsJointFault, TellsPart, TellsUnreadPart}
 use Rattle.std.specs.Prelude.{IfNone, IfSome}
 use Rattle.log_replay.specs.declared.log_bytes.LogReplayed.{LogReplayed}
@@ -26,10 +26,8 @@ use Rattle.folder_faults.specs.Faults.{IsRefused}
 use Rattle.folder_logs.specs.First.{TellsFirst}
 use Rattle.held_logs.specs.Behind.{TellsBehind}
 use Rattle.folder_faults.specs.declared.fault.Fault.{Fault}
-use Rattle.folder_faults.specs.declared.fault.Missing.TheVariants.{Log as MissingLog}
 use Rattle.world_folders.specs.declared.reading.PathFault.{PathFault}
 use Rattle.world_folders.specs.declared.reading.PathFault.TheVariants.{NotThere, NoFolder, Failed}
-use Rattle.world_folders.specs.Faults.{IsUnread}
 use Rattle.world_folders.specs.Logs.{AreOfLog, TellsHeld}
 use Rattle.folder_archives.proofs.Firsts.{fault_on}
 
@@ -120,7 +118,7 @@ is_fault fails holds log identity totals next path (Log fault) behind place (inl
       told = next.told;
       held = behind.held;
       behind = behind.all;
-      unread = subst (λ (p : List ℕ). IsUnread fails p MissingLog fault) place unread;
+      unread = subst (λ (p : List ℕ). IsUnreadThere fails p fault) place unread;
     })))
 is_fault fails holds log identity totals next path (Log fault) behind place (inr memory) = inl (inr (inr memory))
 is_fault fails holds log identity totals next path (Part at why) behind place is =

@@ -7,13 +7,12 @@ use Rattle.held_logs.specs.declared.fault.HeldFault.TheVariants as no_log
 use Rattle.held_logs.specs.Held.{IsHeldFault}
 use Rattle.log_replay.specs.declared.log_bytes.LogReplayed.TheVariants as came
 use Rattle.folder_faults.specs.declared.fault.Fault.{Fault}
-use Rattle.folder_faults.specs.declared.fault.Fault.TheVariants.{TooLong}
-use Rattle.folder_faults.specs.declared.fault.Missing.TheVariants.{Log as MissingLog}
-use Rattle.folder_faults.specs.declared.fault.Why.TheVariants.{BadRecord}
-use Rattle.folder_faults.specs.Faults.{IsRefused, status_of}
+use Rattle.folder_faults.specs.declared.fault.Fault.TheVariants.{System, TooLong}
+use Rattle.folder_faults.specs.declared.fault.Why.TheVariants as why
+use Rattle.folder_faults.specs.Faults.{IsOf, IsRefused, status_of}
 use Rattle.world_folders.specs.declared.reading.PathFault.{PathFault}
-use Rattle.world_folders.specs.declared.reading.PathFault.TheVariants.{NotThere}
-use Rattle.world_folders.specs.Faults.{IsLogFault, IsUnread}
+use Rattle.world_folders.specs.declared.reading.PathFault.TheVariants.{NotThere, NoFolder, Failed}
+use Rattle.world_folders.specs.Faults.{IsLogFault}
 use Rattle.world_folders.specs.Logs.{AreOfLog, TellsHeld}
 use Rattle.world_folders.specs.Reading.{IsRead}
 use Rattle.log_archives.specs.declared.fault.JointFault.{JointFault}
@@ -70,13 +69,25 @@ pub record IsPartFault (fails : List ℕ → PathFault → Type 0) (holds : List
   pub behind : AreVerified holds log identity (Some told) held
   pub is : TellsWhyNot fails holds identity (part_path log told.bytes) (path_of log behind.parts) told held at why
 
+-- The fault tells why a file that may be there isn't read: something is no folder, or how the system failed.
+abbrev pub TellsUnreadThere : List ℕ → PathFault → Fault → Type 0
+TellsUnreadThere path NotThere fault = ⊥
+TellsUnreadThere path NoFolder fault = IsRefused path why.NoFolder fault
+TellsUnreadThere path (Failed error) fault = IsOf (λ name. System name error) path fault
+
+-- The file at the path wasn't read, for another reason than that it isn't there, as the fault tells.
+pub record IsUnreadThere (fails : List ℕ → PathFault → Type 0) (path : List ℕ) (fault : Fault) : Type 0 where
+  pub why : PathFault
+  pub failed : fails path why
+  pub told : TellsUnreadThere path why fault
+
 -- Parts were verified from one on up to the log, and the one in front of it, which its head asks for, wasn't read, as the fault tells.
 pub record IsPartUnread (fails : List ℕ → PathFault → Type 0) (holds : List ℕ → List ℕ → Type 0) (log : List ℕ) (identity : IdentityValue)
     (fault : Fault) : Type 0 where
   pub told : Gone
   pub held : List ℕ
   pub behind : AreVerified holds log identity (Some told) held
-  pub unread : IsUnread fails (part_path log told.bytes) MissingLog fault
+  pub unread : IsUnreadThere fails (part_path log told.bytes) fault
 
 -- The log was read, and this line of the records that it holds is none of the site, or breaks a rule.
 pub record HasBadRecord (holds : List ℕ → List ℕ → Type 0) (log : List ℕ) (identity : IdentityValue) (fault : Fault) : Type 0 where
@@ -86,7 +97,7 @@ pub record HasBadRecord (holds : List ℕ → List ℕ → Type 0) (log : List �
   pub line : ℕ
   pub bad : TellsHeld identity.schema identity.number.0 gone records (came.BadLine line)
       ⊎ TellsHeld identity.schema identity.number.0 gone records (came.BreaksRule line)
-  pub told : IsRefused log (BadRecord line) fault
+  pub told : IsRefused log (why.BadRecord line) fault
 
 -- Why the log isn't verified: of a part, or of the log itself; or a part can't be read, or there are more parts than can be counted.
 abbrev pub IsVerifyFault : (List ℕ → PathFault → Type 0) → (List ℕ → List ℕ → Type 0) → List ℕ → IdentityValue → VerifyFault → Type 0

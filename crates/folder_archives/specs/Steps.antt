@@ -9,13 +9,11 @@ use Rattle.kept_records.specs.Text.{text}
 use Rattle.site_folder.specs.Identity.{IdentityValue}
 use Rattle.log_replay.specs.declared.log_bytes.LogReplayed.TheVariants as came
 use Rattle.folder_faults.specs.declared.fault.Fault.{Fault}
-use Rattle.folder_faults.specs.declared.fault.Fault.TheVariants.{NoMemory, System}
-use Rattle.folder_faults.specs.declared.fault.Missing.TheVariants.{Log as MissingLog}
+use Rattle.folder_faults.specs.declared.fault.Fault.TheVariants.{NoMemory}
 use Rattle.folder_faults.specs.declared.fault.Why.TheVariants as why
-use Rattle.folder_faults.specs.Faults.{IsOf, IsRefused}
+use Rattle.folder_faults.specs.Faults.{IsRefused}
 use Rattle.world_folders.specs.declared.reading.PathFault.{PathFault}
 use Rattle.world_folders.specs.declared.reading.PathFault.TheVariants.{NotThere, NoFolder, Failed}
-use Rattle.world_folders.specs.Faults.{IsUnread}
 use Rattle.log_head.specs.declared.gone.Gone.{Gone}
 use Rattle.held_logs.specs.declared.fault.HeldFault.{HeldFault}
 use Rattle.held_logs.specs.declared.fault.HeldFault.TheVariants as no_log
@@ -32,7 +30,7 @@ use Rattle.folder_archives.specs.declared.fault.VerifyFault.{VerifyFault}
 use Rattle.folder_archives.specs.declared.fault.VerifyFault.TheVariants.{Log, Part}
 use Rattle.folder_archives.specs.declared.verifying.LogTotals.{LogTotals}
 use Rattle.folder_archives.specs.Verified.{AreVerified, path_of}
-use Rattle.folder_archives.specs.Faults.{TellsWhyNot}
+use Rattle.folder_archives.specs.Faults.{IsUnreadThere, TellsUnreadThere, TellsWhyNot}
 
 -- ---- how a part begins
 
@@ -100,8 +98,8 @@ IsToldOf path why (Part at told) = (string_bytes at ≡ path) × (told ≡ why)
 -- The fault tells why the part at this path isn't read: it is missing, something is no folder, or how the system failed.
 abbrev pub TellsUnreadPart : List ℕ → PathFault → VerifyFault → Type 0
 TellsUnreadPart path NotThere fault = IsToldOf path Missing fault
-TellsUnreadPart path NoFolder fault = (told : Fault) × (fault ≡ Log told) × IsRefused path why.NoFolder told
-TellsUnreadPart path (Failed error) fault = (told : Fault) × (fault ≡ Log told) × IsOf (λ name. System name error) path told
+TellsUnreadPart path NoFolder fault = (told : Fault) × (fault ≡ Log told) × TellsUnreadThere path NoFolder told
+TellsUnreadPart path (Failed error) fault = (told : Fault) × (fault ≡ Log told) × TellsUnreadThere path (Failed error) told
 
 -- The part at this path wasn't read, and the fault tells why.
 pub record IsUnreadPart (fails : List ℕ → PathFault → Type 0) (path : List ℕ) (fault : VerifyFault) : Type 0 where
@@ -132,7 +130,7 @@ TellsJointFault path next apart.OtherHorizon fault = ByPath path (λ of. IsToldO
 
 -- What a fault tells of the part at a path that the next one asks for, of which the body knows how it begins.
 abbrev pub TellsPart : (List ℕ → PathFault → Type 0) → (List ℕ → List ℕ → Type 0) → IdentityValue → List ℕ → Beginning → VerifyFault → Type 0
-TellsPart fails _ _ path _ (Log fault) = IsUnread fails path MissingLog fault ⊎ (fault ≡ NoMemory)
+TellsPart fails _ _ path _ (Log fault) = IsUnreadThere fails path fault ⊎ (fault ≡ NoMemory)
 TellsPart fails holds identity path next (Part at why) =
     TellsWhyNot fails holds identity path (string_bytes next.path) next.told next.base.items (string_bytes at) why
 
